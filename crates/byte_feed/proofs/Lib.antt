@@ -1,0 +1,16 @@
+pub mod Beginnings
+pub mod Compared
+pub mod Draws
+pub mod Endings
+pub mod Fields
+pub mod Fronts
+pub mod HeldBytes
+pub mod HeldTexts
+pub mod Numbers
+pub mod Rests
+pub mod Steady
+pub mod Steps
+pub mod Streams
+pub mod Takes
+pub mod TakenOff
+pub mod Wants

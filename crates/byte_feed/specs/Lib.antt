@@ -1,0 +1,5 @@
+pub mod Feed
+pub mod Field
+pub mod Front
+pub mod Paths
+pub mod Stream

@@ -1,0 +1,77 @@
+//! Character classes.
+ghost use Rattle.std.specs.Prelude.{◌≡◌};
+ghost use Rattle.glob_match.specs.Class.{class_named, class_has};
+
+/// A character class of the POSIX locale.
+#[derive(Clone, Copy)]
+pub(crate) enum Class {
+    Alpha,
+    Digit,
+    Alnum,
+    Lower,
+    Upper,
+    Xdigit,
+    Blank,
+    Space,
+    Cntrl,
+    Graph,
+    Print,
+    Punct,
+}
+
+impl Class {
+    /// The class of a name, if there is one.
+    #[tactic(auto, unfolding(crate::specs::Class::class_named))]
+    pub(crate) fn named(name: &[u8]) -> Option<Class>
+        ensures { result ≡ class_named name.now }
+    {
+        if name == b"alpha".as_slice() {
+            Some(Class::Alpha)
+        } else if name == b"digit".as_slice() {
+            Some(Class::Digit)
+        } else if name == b"alnum".as_slice() {
+            Some(Class::Alnum)
+        } else if name == b"lower".as_slice() {
+            Some(Class::Lower)
+        } else if name == b"upper".as_slice() {
+            Some(Class::Upper)
+        } else if name == b"xdigit".as_slice() {
+            Some(Class::Xdigit)
+        } else if name == b"blank".as_slice() {
+            Some(Class::Blank)
+        } else if name == b"space".as_slice() {
+            Some(Class::Space)
+        } else if name == b"cntrl".as_slice() {
+            Some(Class::Cntrl)
+        } else if name == b"graph".as_slice() {
+            Some(Class::Graph)
+        } else if name == b"print".as_slice() {
+            Some(Class::Print)
+        } else if name == b"punct".as_slice() {
+            Some(Class::Punct)
+        } else {
+            None
+        }
+    }
+
+    /// Whether the class has the byte.
+    #[tactic(auto, using(crate::proofs::Classes::class_tests), unfolding(crate::specs::Class::class_has))]
+    pub(crate) fn has(self, byte: u8) -> bool
+        ensures { result ≡ class_has self byte }
+    {
+        match self {
+            Class::Alpha => byte.is_ascii_alphabetic(),
+            Class::Digit => byte.is_ascii_digit(),
+            Class::Alnum => byte.is_ascii_alphanumeric(),
+            Class::Lower => byte.is_ascii_lowercase(),
+            Class::Upper => byte.is_ascii_uppercase(),
+            Class::Xdigit => byte.is_ascii_hexdigit(),
+            Class::Blank => byte == b'\t' || byte == b' ',
+            Class::Space => byte.is_ascii_whitespace() || byte == 0x0B,
+            Class::Cntrl => byte.is_ascii_control(),
+            Class::Graph => byte.is_ascii_graphic(),
+            Class::Print => byte.is_ascii_graphic() || byte == b' ',
+            Class::Punct => byte.is_ascii_punctuation(),
+        }
+    }
+}

@@ -1,0 +1,103 @@
+//! Patterns of the shell.
+ghost use Rattle.std.specs.Prelude.{◌≡◌, ◌+◌, ◌*◌, ◌≤◌, ◌↔◌, length, IsTrue, IsSome, IfOk};
+ghost use Rattle.std.specs.Option.{option_copied};
+ghost use Rattle.glob_match.specs.Pattern.{wanted, items_of, plain_of, InGlob};
+
+use crate::items::Items;
+use crate::matching::matches_items;
+use crate::reading::{is_plain, read_items, read_plain};
+use crate::steps::Steps;
+use memchr::memmem::Finder;
+use std::alloc::{AllocError, Global};
+use std::marker::Model;
+use std::sync::ledger::Ledger;
+
+/// A pattern of the shell, as the pathname patterns of POSIX (Shell Command Language, "Pattern
+/// Matching Notation", in the POSIX locale), but that it matches any bytes, `/` and a first `.` too,
+/// that `[.` and `[=` mean nothing in a bracket, and that one without any of `*`, `?`, `[`, `\` and
+/// `]` asks only that its bytes occur. Of what POSIX leaves open: `^` complements as `!` does, a `\`
+/// at the end stands for itself, an unknown class has no byte, a range that falls is empty, and a `-`
+/// before a class is a member.
+#[derive(Drop)]
+pub struct Glob {
+    items: Items,
+    finder: Option<Finder<'static>>,
+}
+
+impl Model for Glob {
+    ghost use Rattle.std.specs.Prelude.{◌≡◌, [], IfSome};
+    ghost use Rattle.glob_match.specs.Pattern.{Wanted, wanted_of};
+
+    ghost Value = { Wanted };
+
+    ghost view = { λ g. wanted_of g.finder g.items };
+
+    ghost invariant = { λ g. IfSome g.finder (λ _. g.items ≡ []) };
+}
+
+impl Glob {
+    /// Reads a pattern, of any bytes. Where `fold`, ASCII letters match in either case. It fails only
+    /// for want of memory.
+    #[tactic(auto, unfolding(crate::specs::Pattern::wanted))]
+    pub fn read(alloc: Global, pattern: &[u8], fold: bool) -> Result<Glob, AllocError>
+        ensures { IfOk result (λ glob. glob ≡ wanted pattern.now fold) }
+    {
+        if !is_plain(pattern) {
+            let items = read_items(alloc, pattern, fold)?;
+            return Ok(Glob {
+                items,
+                finder: None,
+            });
+        }
+        if fold {
+            let items = read_plain(alloc, pattern)?;
+            return Ok(Glob {
+                items,
+                finder: None,
+            });
+        }
+        let finder = Finder::new(pattern).into_owned(alloc)?;
+        Ok(Glob {
+            items: Items::new(alloc),
+            finder: Some(finder),
+        })
+    }
+
+    /// Whether the whole text matches or, where the pattern is plain and case is not folded, whether
+    /// the pattern occurs in it. It takes no memory.
+    pub fn matches<L: Ledger>(&self, text: &[u8], steps: &mut Steps<L>) -> bool
+        ensures value { IsTrue result ↔ InGlob self.now text.now }
+        ensures rising { steps.old ≤ steps.new }
+        ensures bound { steps.new ≤ steps.old + 2 * (length (items_of self.now) + 1) * (length text.now + 1) }
+        ensures plain { IsSome (plain_of self.now) → steps.new ≡ steps.old }
+    {
+        match &self.finder {
+            Some(finder) => finder.find(text).is_some(),
+            None => matches_items(&self.items, text, steps),
+        }
+    }
+
+    /// How many items the pattern has, none where it is plain and case is not folded.
+    pub fn item_count(&self) -> usize
+        ensures { result ≡ length (items_of self.now) }
+    {
+        self.items.len()
+    }
+
+    /// The items of the pattern, none where it is plain and case is not folded.
+    pub fn items(&self) -> &Items
+        ensures { result.now ≡ items_of self.now }
+    {
+        &self.items
+    }
+
+    /// The pattern, where it is plain and case is not folded.
+    pub fn plain(&self) -> Option<&[u8]>
+        ensures { option_copied result ≡ plain_of self.now }
+    {
+        match &self.finder {
+            Some(finder) => Some(finder.needle()),
+            None => None,
+        }
+    }
+}

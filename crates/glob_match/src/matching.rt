@@ -1,0 +1,77 @@
+//! Whether items match a text.
+ghost use Rattle.std.specs.Prelude.{◌≡◌, ◌+◌, ◌*◌, ◌≤◌, ◌↔◌, length, IsTrue};
+ghost use Rattle.glob_match.specs.Language.{Matches};
+
+use crate::items::Items;
+use crate::steps::Steps;
+use std::sync::ledger::Ledger;
+
+/// Whether the whole text is one that the items match. Most texts that are not end otherwise, and
+/// take one step.
+pub(crate) fn matches_items<L: Ledger>(items: &Items, text: &[u8], steps: &mut Steps<L>) -> bool
+    ensures value { IsTrue result ↔ Matches items.now text.now }
+    ensures rising { steps.old ≤ steps.new }
+    ensures bound { steps.new ≤ steps.old + 2 * (length items.now + 1) * (length text.now + 1) }
+{
+    if !ends_alike(items, text, steps) {
+        return false;
+    }
+    walk(items, text, steps)
+}
+
+/// Whether the last item is a star or takes the last byte of the text, without which nothing matches.
+#[inline(always)]
+fn ends_alike<L: Ledger>(items: &Items, text: &[u8], steps: &mut Steps<L>) -> bool
+    ensures needed { Matches items.now text.now → IsTrue result }
+    ensures rising { steps.old ≤ steps.new }
+    ensures bound { steps.new ≤ steps.old + 1 }
+{
+    let len = items.len();
+    if len == 0 || items.is_star(len - 1) {
+        return true;
+    }
+    if text.is_empty() {
+        return false;
+    }
+    items.takes(len - 1, text[text.len() - 1], steps)
+}
+
+/// The walk over items and text, which goes back to the last star.
+fn walk<L: Ledger>(items: &Items, text: &[u8], steps: &mut Steps<L>) -> bool
+    ensures value { IsTrue result ↔ Matches items.now text.now }
+    ensures rising { steps.old ≤ steps.new }
+    ensures bound { steps.new ≤ steps.old + (length items.now + 1) * (length text.now + 1) }
+{
+    let mut item = 0;
+    let mut at = 0;
+    // The item after the last star, or 0, and the place of the text from which it was last tried.
+    let mut restart = 0;
+    let mut from = 0;
+    'walk: loop {
+        if item == items.len() {
+            if at == text.len() {
+                return true;
+            }
+        } else if items.is_star(item) {
+            item += 1;
+            if item == items.len() {
+                return true;
+            }
+            restart = item;
+            from = at;
+            continue;
+        } else if at == text.len() {
+            return false;
+        } else if items.takes(item, text[at], steps) {
+            item += 1;
+            at += 1;
+            continue;
+        }
+        if restart == 0 {
+            return false;
+        }
+        from += 1;
+        item = restart;
+        at = from;
+    }
+}

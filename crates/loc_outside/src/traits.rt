@@ -1,0 +1,107 @@
+//! The traits.
+ghost use Rattle.std.specs.Prelude.{◌≡◌, ◌<◌, ◌^◌, List, ℕ, length, OnErr};
+ghost use Rattle.std.specs.declared.option.Option.{Option};
+ghost use Rattle.std.specs.Io.{ReadsAtMost};
+ghost use Rattle.std.specs.Io.KnownBytes.{ReadConsumes, WriteAppends};
+ghost use Rattle.loc_outside.specs.Causes.{HasCause};
+ghost use Rattle.loc_outside.specs.Files.{Files};
+ghost use Rattle.loc_outside.specs.Outside.{GivesCount, TakesPart, OpensAs};
+
+use thiserror::Error;
+
+/// A call on the outside failed: the count of faults rose, or stands at its last value, 2^64 - 1.
+#[derive(Clone, Copy, Debug, PartialEq, Eq, Error)]
+#[error("Failed")]
+pub struct Failed;
+
+/// Whether there is a file of the name.
+#[derive(Clone, Copy, Debug, PartialEq, Eq)]
+pub enum Opened {
+    Found,
+    Missing,
+}
+
+/// Bytes to be read. What is left may be told or not: clauses on it hold where it is told.
+pub trait Source {
+    /// The bytes that are left, where the source tells them.
+    ghost left: { Self → Option (List ℕ) };
+
+    /// How many bytes it has given, up to 2^64 - 1. Every source tells this.
+    ghost given: { Self → ℕ };
+
+    /// How often it has failed, up to 2^64 - 1.
+    ghost faults: { Self → ℕ };
+
+    /// What stays the same while it is only read.
+    ghost kept: { Self → Self → Type 0 };
+
+    /// Moves the first bytes that are left into `into`, and answers their number, which is 0 only where none is left.
+    /// After `Failed` the bytes that are left are the same.
+    fn read(&mut self, into: &mut [u8]) -> Result<usize, Failed>
+        requires { 0 < length into.old }
+        ensures bound { ReadsAtMost result into.new }
+        ensures bytes { ReadConsumes (left self.old) (left self.new) result into.new }
+        ensures err { OnErr result (left self.new ≡ left self.old) }
+        ensures given { GivesCount (given self.old) (given self.new) result }
+        ensures cause { HasCause (faults self.old) (faults self.new) result }
+        ensures kept { kept self.old self.new };
+
+    /// A source keeps what it is.
+    ghost keeps_itself: { (s : Self) → kept s s };
+
+    /// What two steps keep, both keep together.
+    ghost keeps_on: { (s t u : Self) → kept s t → kept t u → kept s u };
+
+    /// The number of bytes given is below 2^64.
+    ghost given_below: { (s : Self) → given s < 2 ^ 64 };
+
+    /// The count of faults is below 2^64.
+    ghost faults_below: { (s : Self) → faults s < 2 ^ 64 };
+}
+
+/// Files by name, one of which may be open to be read.
+pub trait Reader: Source {
+    /// The files, where the reader tells them.
+    ghost files: { Self → Option Files };
+
+    /// Opens the file of this name, of which all bytes are left then.
+    /// After `Missing` or `Failed` nothing is left.
+    fn open_file(&mut self, name: &str) -> Result<Opened, Failed>
+        ensures opened { OpensAs (files self.old) name.now result (Self.left self.new) }
+        ensures files { files self.new ≡ files self.old }
+        ensures given { Self.given self.new ≡ Self.given self.old }
+        ensures cause { HasCause (Self.faults self.old) (Self.faults self.new) result };
+
+    /// To read changes no file.
+    ghost keeps_files: { (s t : Self) → Self.kept s t → files t ≡ files s };
+}
+
+/// What takes bytes.
+pub trait Sink {
+    /// The bytes that it has taken, where it tells them.
+    ghost taken: { Self → Option (List ℕ) };
+
+    /// How often it has failed, up to 2^64 - 1.
+    ghost faults: { Self → ℕ };
+
+    /// What stays the same while it only takes bytes.
+    ghost kept: { Self → Self → Type 0 };
+
+    /// Takes a first part of the piece and answers its length, which is at least 1 for a piece that isn't empty.
+    /// After `Failed` nothing of the piece was taken.
+    fn write(&mut self, piece: &[u8]) -> Result<usize, Failed>
+        ensures bound { TakesPart result piece.now }
+        ensures bytes { WriteAppends (taken self.old) (taken self.new) result piece.now }
+        ensures err { OnErr result (taken self.new ≡ taken self.old) }
+        ensures cause { HasCause (faults self.old) (faults self.new) result }
+        ensures kept { kept self.old self.new };
+
+    /// A sink keeps what it is.
+    ghost keeps_itself: { (s : Self) → kept s s };
+
+    /// What two steps keep, both keep together.
+    ghost keeps_on: { (s t u : Self) → kept s t → kept t u → kept s u };
+
+    /// The count of faults is below 2^64.
+    ghost faults_below: { (s : Self) → faults s < 2 ^ 64 };
+}

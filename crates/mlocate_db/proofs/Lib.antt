@@ -1,0 +1,10 @@
+mod DamagedExamples
+pub mod Entries
+pub mod ItemLaws
+pub mod ItemSizes
+pub mod ItemSteady
+pub mod ItemSteps
+pub mod Parts
+pub mod PathSteps
+pub mod ReaderSteps
+pub mod Starts

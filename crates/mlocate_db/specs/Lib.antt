@@ -1,0 +1,3 @@
+pub mod Items
+pub mod Reader
+pub mod StreamItems

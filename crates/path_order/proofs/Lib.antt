@@ -1,0 +1,5 @@
+mod BaseLemmas
+pub mod NamesOrder
+pub mod OrderLemmas
+pub mod ParentLemmas
+pub mod PathLemmas

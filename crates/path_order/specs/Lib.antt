@@ -1,0 +1,4 @@
+pub mod Names
+pub mod Order
+pub mod Path
+pub mod Stamp

@@ -1,0 +1,10 @@
+//! Kinds of names.
+
+/// What a name in a directory stands for. `File` comes before `Directory`.
+#[derive(Clone, Copy, Debug, PartialEq, Eq, PartialOrd, Ord)]
+pub enum Kind {
+    /// All but a directory: a file, a link, a device, a socket.
+    File,
+    /// A directory.
+    Directory,
+}
