@@ -1,5 +1,5 @@
 -- Lines of paths that were given one after another.
-use Rattle.std.proofs.Common.{◌≡◌, ℕ, ◌+◌, ◌≤◌, Bool, true, false, cond, List, [], ◌∷◌, ◌++◌, length, Option, Some, None, Ok, Err, IsTrue, refl, sym, ap, subst, ◌∙◌, append-nil, arith}
+use Rattle.std.proofs.Common.{append_assoc, ◌≡◌, ℕ, ◌+◌, ◌≤◌, Bool, true, false, cond, List, [], ◌∷◌, ◌++◌, length, Option, Some, None, Ok, Err, IsTrue, refl, sym, ap, subst, ◌∙◌, append-nil, arith}
 use Rattle.std.proofs.lemmas.Grind.{flat_map-append}
 use Rattle.std.proofs.lemmas.List.Sums.{sum_by-append, sum_by_push}
 use Rattle.std.proofs.KnownBytes.{Appends-nil, Appends-trans}
@@ -62,6 +62,7 @@ module _ (wanted : List ℕ → Bool) (bound : List ℕ → ℕ) (separator : �
         ends = ends;
         prints = rw went (subst (λ (ps : List PathAt). Appends u v (printed wanted separator ps)) (sym all) put);
         counts = rw went (count ∙ ap (λ (ps : List PathAt). m + matching wanted ps) (sym all));
+        stopped = λ yes. absurd (not_itself (subst IsTrue went yes));
         within = subst (λ (ps : List PathAt). s' ≤ s + steps_over bound ps) (sym all) step;
       }
 
@@ -96,11 +97,11 @@ parts_of wanted separator given p later =
 
 -- the sink failed inside a line
 pub searches_part : (wanted : List ℕ → Bool) (bound : List ℕ → ℕ) (separator : ℕ) (t t' : Window → ToCome) (given : List PathAt) (p : PathAt) (f f' : FeedState) (l l' u v w : Option (List ℕ)) (m m' s s' : ℕ)
-    → MovedKnown t t' (after_paths (given ++ p ∷ [])) f l f' l' → Appends u v (printed wanted separator given) → AppendsPart v w (line_of wanted separator p) → m' ≡ m + matching wanted given → s' ≤ s + steps_over bound (given ++ p ∷ [])
+    → MovedKnown t t' (after_paths (given ++ p ∷ [])) f l f' l' → Appends u v (printed wanted separator given) → AppendsPart v w (line_of wanted separator p) → wanted p.text ≡ true → m' ≡ m + matching wanted given → s' ≤ s + steps_over bound (given ++ p ∷ [])
     → SearchesKnown wanted bound separator t f l l' u w m m' s s' outcomes.WriteFault
-searches_part wanted bound separator t t' given p f f' None l' u v w m m' s s' moved put part count step = tt
-searches_part wanted bound separator t t' given p f f' (Some a) None u v w m m' s s' moved put part count step = absurd moved
-searches_part wanted bound separator t t' given p f f' (Some a) (Some b) u v w m m' s s' moved put part count step =
+searches_part wanted bound separator t t' given p f f' None l' u v w m m' s s' moved put part passed count step = tt
+searches_part wanted bound separator t t' given p f f' (Some a) None u v w m m' s s' moved put part passed count step = absurd moved
+searches_part wanted bound separator t t' given p f f' (Some a) (Some b) u v w m m' s s' moved put part passed count step =
     let later : List PathAt = (t' (window f' b)).paths in
     let all : (t (window f a)).paths ≡ (given ++ p ∷ []) ++ later = ap (λ (z : ToCome). z.paths) moved.whole in
     let text : printed wanted separator (t (window f a)).paths ≡ (printed wanted separator given ++ line_of wanted separator p) ++ printed wanted separator later = ap (printed wanted separator) all ∙ parts_of wanted separator given p later in
@@ -111,6 +112,17 @@ searches_part wanted bound separator t t' given p f f' (Some a) (Some b) u v w m
         ends = λ no. absurd (not_itself no);
         prints = subst (AppendsPart u w) (sym text) (part_first u w _ _ (part_second u v w _ _ put part));
         counts = omega (arith, count, number);
+        stopped = λ _. record {
+          before = given;
+          here = p;
+          behind = later;
+          all = all ∙ append_assoc given (p ∷ []) later;
+          is_wanted = passed;
+          counts = count;
+          part = part.0;
+          within = part.1;
+          prints = Appends-trans u v w _ _ put part.2;
+        };
         within = omega (arith, step, cost);
       },
     )

@@ -1,5 +1,5 @@
 -- What a search prints and counts of the paths of a database.
-use Rattle.std.specs.Prelude.{◌≡◌, ℕ, ◌+◌, ◌≤◌, Bool, List, [], ◌∷◌, ◌++◌, length, Option, Some, None, Ok, Err, true, false, if◌then◌else◌, count_by, ⊤, IsTrue, MatchBool}
+use Rattle.std.specs.Prelude.{◌≡◌, ℕ, ◌+◌, ◌≤◌, Bool, List, [], ◌∷◌, ◌++◌, length, take, Option, Some, None, Ok, Err, true, false, if◌then◌else◌, count_by, ⊤, IsTrue, MatchBool}
 use Rattle.std.specs.List.{flat_map, sum_by}
 use Rattle.std.specs.Io.KnownBytes.{Appends}
 use Rattle.loc_outside.specs.Outside.{AppendsPart}
@@ -44,11 +44,11 @@ abbrev pub is_read_fault : Outcome → Bool
 is_read_fault outcomes.ReadFault = true
 is_read_fault outcome = false
 
--- no file of the name was found, or it could not be told
-abbrev pub finds_no_file : Outcome → Bool
-finds_no_file outcomes.Missing = true
-finds_no_file outcomes.ReadFault = true
-finds_no_file outcome = false
+-- no file was found, or a call of the reader failed
+abbrev pub is_missing_or_read_fault : Outcome → Bool
+is_missing_or_read_fault outcomes.Missing = true
+is_missing_or_read_fault outcomes.ReadFault = true
+is_missing_or_read_fault outcome = false
 
 -- the search came to the end of the paths
 abbrev pub ends_itself : Outcome → Bool
@@ -57,12 +57,26 @@ ends_itself outcomes.ReadFault = false
 ends_itself outcomes.WriteFault = false
 ends_itself outcome = true
 
+-- A write failed: the wanted paths before the one in hand were printed and counted, and a first part of its line was
+-- printed.
+pub record Stopped (wanted : List ℕ → Bool) (separator : ℕ) (paths : List PathAt) (taken taken' : Option (List ℕ)) (matched matched' : ℕ) : Type 0 where
+  pub before : List PathAt
+  pub here : PathAt
+  pub behind : List PathAt
+  pub all : paths ≡ before ++ here ∷ behind
+  pub is_wanted : wanted here.text ≡ true
+  pub counts : matched' ≡ matched + matching wanted before
+  pub part : ℕ
+  pub within : part ≤ length (line_of wanted separator here)
+  pub prints : Appends taken taken' (printed wanted separator before ++ take part (line_of wanted separator here))
+
 -- What a search did over these paths: it ended as they do, printed and counted all that are wanted, and took no more
 -- steps than it may. Where a write failed, it printed a first part and counted no more than there are.
 pub record Searches (wanted : List ℕ → Bool) (bound : List ℕ → ℕ) (separator : ℕ) (seen : ToCome) (taken taken' : Option (List ℕ)) (matched matched' steps steps' : ℕ) (result : Outcome) : Type 0 where
   pub ends : IsTrue (ends_itself result) → result ≡ outcome_of seen.ending
   pub prints : MatchBool (is_write_fault result) (AppendsPart taken taken' (printed wanted separator seen.paths)) (Appends taken taken' (printed wanted separator seen.paths))
   pub counts : MatchBool (is_write_fault result) (matched' ≤ matched + matching wanted seen.paths) (matched' ≡ matched + matching wanted seen.paths)
+  pub stopped : IsTrue (is_write_fault result) → Stopped wanted separator seen.paths taken taken' matched matched'
   pub within : steps' ≤ steps + steps_over bound seen.paths
 
 -- the paths of the whole file, or, where the source failed with n bytes left, of what had come of it

@@ -2,7 +2,7 @@
 ghost use Rattle.std.specs.Prelude.{◌≡◌, ◌≤◌, ◌+◌, ◌-◌, ◌^◌, None, IfSome, IsTrue};
 ghost use Rattle.std.specs.FinMap as map;
 ghost use Rattle.loc_outside.specs.Causes.{Rose};
-ghost use Rattle.locate_engine.specs.Searched.{Searches, SearchesKnown, finds_no_file};
+ghost use Rattle.locate_engine.specs.Searched.{Searches, is_missing_or_read_fault};
 ghost use Rattle.locate_engine.specs.Files.{seen_in};
 
 use crate::matcher::Matcher;
@@ -28,10 +28,10 @@ pub fn search_by<M: Matcher, R: Reader, K: Sink, L: Ledger>(
 ) -> Outcome
     requires room { tally.old.matched ≤ 2 ^ 62 }
     ensures missing { IfSome (R.files reader.old) (λ files. result ≡ Outcome.Missing → map.get files name.now ≡ None) }
-    ensures absent { IfSome (R.files reader.old) (λ files. map.get files name.now ≡ None → IsTrue (finds_no_file result)) }
+    ensures absent { IfSome (R.files reader.old) (λ files. map.get files name.now ≡ None → IsTrue (is_missing_or_read_fault result)) }
     ensures nothing { IfSome (R.files reader.old) (λ files. map.get files name.now ≡ None → (out.new ≡ out.old) × (tally.new ≡ tally.old)) }
     ensures unopened { result ≡ Outcome.Missing → (out.new ≡ out.old) × (tally.new ≡ tally.old) }
-    ensures searched { IfSome (R.files reader.old) (λ files. IfSome (map.get files name.now) (λ file. R.given reader.old ≤ 2 ^ 62 →
+    ensures searched { IfSome (R.files reader.old) (λ files. IfSome (map.get files name.now) (λ file. (result ≡ Outcome.ReadFault → R.given reader.old ≤ 2 ^ 62) →
         Searches (M.test matcher.old) (M.bound matcher.old) query.now.separator (seen_in file (R.given reader.new - R.given reader.old) result) (K.taken out.old) (K.taken out.new) tally.old.matched tally.new.matched steps.old steps.new result)) }
     ensures rises { tally.old.matched ≤ tally.new.matched }
     ensures within { tally.new.matched ≤ tally.old.matched + 2 ^ 40 }
@@ -39,6 +39,10 @@ pub fn search_by<M: Matcher, R: Reader, K: Sink, L: Ledger>(
     ensures read_fault { result ≡ Outcome.ReadFault → Rose (R.faults reader.old) (R.faults reader.new) }
     ensures write_fault { result ≡ Outcome.WriteFault → Rose (K.faults out.old) (K.faults out.new) }
     ensures files { R.files reader.new ≡ R.files reader.old }
+    ensures given_rises { R.given reader.old ≤ R.given reader.new }
+    ensures given_within { R.given reader.new ≤ R.given reader.old + 2 ^ 40 }
+    ensures test { M.test matcher.new ≡ M.test matcher.old }
+    ensures bound { M.bound matcher.new ≡ M.bound matcher.old }
     ensures later { R.faults reader.old ≤ R.faults reader.new }
     ensures out_later { K.faults out.old ≤ K.faults out.new }
     ensures out_kept { K.kept out.old out.new }
@@ -60,7 +64,7 @@ fn search_open<M: Matcher, R: Reader, K: Sink, L: Ledger>(
     steps: &mut Steps<L>,
 ) -> Outcome
     requires room { tally.old.matched ≤ 2 ^ 62 }
-    ensures searched { IfSome (R.left reader.old) (λ file. R.given reader.old ≤ 2 ^ 62 →
+    ensures searched { IfSome (R.left reader.old) (λ file. (result ≡ Outcome.ReadFault → R.given reader.old ≤ 2 ^ 62) →
         Searches (M.test matcher.old) (M.bound matcher.old) query.now.separator (seen_in file (R.given reader.new - R.given reader.old) result) (K.taken out.old) (K.taken out.new) tally.old.matched tally.new.matched steps.old steps.new result) }
     ensures rises { tally.old.matched ≤ tally.new.matched }
     ensures within { tally.new.matched ≤ tally.old.matched + 2 ^ 40 }
@@ -68,6 +72,10 @@ fn search_open<M: Matcher, R: Reader, K: Sink, L: Ledger>(
     ensures there { result ≡ Outcome.Missing → ⊥ }
     ensures read_fault { result ≡ Outcome.ReadFault → Rose (R.faults reader.old) (R.faults reader.new) }
     ensures write_fault { result ≡ Outcome.WriteFault → Rose (K.faults out.old) (K.faults out.new) }
+    ensures given_rises { R.given reader.old ≤ R.given reader.new }
+    ensures given_within { R.given reader.new ≤ R.given reader.old + 2 ^ 40 }
+    ensures test { M.test matcher.new ≡ M.test matcher.old }
+    ensures bound { M.bound matcher.new ≡ M.bound matcher.old }
     ensures later { R.faults reader.old ≤ R.faults reader.new }
     ensures out_later { K.faults out.old ≤ K.faults out.new }
     ensures kept { R.kept reader.old reader.new }

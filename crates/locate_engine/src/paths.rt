@@ -1,5 +1,5 @@
 //! The search of a stream of paths.
-ghost use Rattle.std.specs.Prelude.{◌≡◌, ◌≤◌, ◌+◌, ◌^◌, ◌++◌, ◌∷◌, [], length, OnOk, OnErr, IsTrue};
+ghost use Rattle.std.specs.Prelude.{◌≡◌, ◌≤◌, ◌+◌, ◌^◌, ◌++◌, ◌∷◌, [], OnOk, OnErr, IsTrue, false};
 ghost use Rattle.std.specs.Io.KnownBytes.{Appends};
 ghost use Rattle.loc_outside.specs.Causes.{HasCause, Rose};
 ghost use Rattle.loc_outside.specs.Outside.{AppendsPart};
@@ -40,7 +40,8 @@ fn put_line<K: Sink>(sink: &mut K, path: &[u8], separator: u8) -> Result<(), Fai
 }
 
 /// Prints each path to come that is wanted, with the separator after it, and counts it. It goes on to the end of the
-/// paths, unless a write fails; then a first part of the text was taken, and the path in hand is not counted.
+/// paths, unless a write fails; then a first part of the text was taken, and the path in hand is not counted. A stream
+/// whose paths are shown only to those who may list their directories is not searched.
 pub fn search_paths<P: PathStream, S: Source, M: Matcher, K: Sink, L: Ledger>(
     stream: &mut P,
     src: &mut S,
@@ -51,6 +52,7 @@ pub fn search_paths<P: PathStream, S: Source, M: Matcher, K: Sink, L: Ledger>(
     steps: &mut Steps<L>,
 ) -> Outcome
     requires live { IsTrue (P.is_live stream.old) }
+    requires shown { P.is_gated stream.old ≡ false }
     requires room { tally.old.matched ≤ 2 ^ 62 }
     ensures searched { SearchesKnown (M.test matcher.old) (M.bound matcher.old) query.now.separator (P.to_come stream.old) (P.feed stream.old) (S.left src.old) (S.left src.new) (K.taken out.old) (K.taken out.new) tally.old.matched tally.new.matched steps.old steps.new result }
     ensures rises { tally.old.matched ≤ tally.new.matched }
@@ -59,6 +61,7 @@ pub fn search_paths<P: PathStream, S: Source, M: Matcher, K: Sink, L: Ledger>(
     ensures there { result ≡ Outcome.Missing → ⊥ }
     ensures read_fault { result ≡ Outcome.ReadFault → Rose (S.faults src.old) (S.faults src.new) }
     ensures write_fault { result ≡ Outcome.WriteFault → Rose (K.faults out.old) (K.faults out.new) }
+    ensures spent { (result ≡ Outcome.WriteFault → ⊥) → P.is_live stream.new ≡ false }
     ensures drawn { Draws (P.feed stream.old) (P.feed stream.new) (S.given src.old) (S.given src.new) (S.left src.old) (S.left src.new) }
     ensures reach { reach (P.feed stream.new) ≤ 2 ^ 40 }
     ensures later { S.faults src.old ≤ S.faults src.new }

@@ -1,15 +1,14 @@
 -- What a run does.
-use Rattle.std.specs.Prelude.{◌≡◌, ℕ, ◌==◌, Bool, true, false, List, [], ◌∷◌, ◌++◌, Option, Some, None, if◌then◌else◌}
+use Rattle.std.specs.Prelude.{◌≡◌, ℕ, ◌==◌, List, [], ◌∷◌, ◌++◌, Option, Some, None, if◌then◌else◌}
 use Rattle.std.specs.List.{flat_map}
 use Rattle.std.specs.Io.KnownBytes.{Appends}
 use Rattle.loc_outside.specs.Outside.{AppendsPart}
-use Rattle.byte_feed.specs.Paths.{ToCome, contents_of_part}
+use Rattle.byte_feed.specs.Paths.{ToCome}
 use Rattle.locate_engine.specs.Wanted.{occurs}
 use Rattle.locate_engine.specs.Searched.{printed, matching, outcome_of}
 use Rattle.locate_engine.specs.declared.outcome.Outcome.{Outcome}
 use Rattle.locate_engine.specs.declared.outcome.Outcome.TheVariants as outcomes
-use Rattle.mlocate_db.specs.Items.{mlocate}
-use Rattle.locate_engine.specs.Files.{paths_in}
+use Rattle.locate_engine.specs.Files.{paths_in, seen_in}
 use Rattle.locate_tools.specs.Words.{Request, asked, tool_of}
 use Rattle.locate_tools.specs.Messages.{outcome_message, cause_message}
 use Rattle.locate_tools.specs.declared.answer.Cause.{Cause}
@@ -19,11 +18,6 @@ use Rattle.locate_tools.specs.declared.answer.Cause.TheVariants as causes
 abbrev pub cause_of : Outcome → ℕ → Cause
 cause_of outcomes.WriteFault count = causes.WriteFault
 cause_of outcome count = if count == 0 then causes.NoMatch else causes.Done
-
--- memory was wanting
-abbrev pub is_out_of_memory : Cause → Bool
-is_out_of_memory causes.OutOfMemory = true
-is_out_of_memory cause = false
 
 -- how many outcomes there are
 abbrev pub outcome_count : Option Request → Cause → ℕ
@@ -39,30 +33,30 @@ lines_of pattern seen = printed (occurs pattern) 10 seen.paths
 abbrev pub count_of : List ℕ → ToCome → ℕ
 count_of pattern seen = matching (occurs pattern) seen.paths
 
--- The file was read to its end: the outcome is how it ends, and exactly its lines were printed.
+-- No read and no write failed: the outcome is how the file ends, and exactly its lines were printed.
 pub record Located (pattern file : List ℕ) (taken taken' : Option (List ℕ)) (outcome : Outcome) (cause : Cause) : Type 0 where
   pub ending : outcome ≡ outcome_of (paths_in file).ending
   pub lines : Appends taken taken' (lines_of pattern (paths_in file))
   pub answer : cause ≡ cause_of outcome (count_of pattern (paths_in file))
 
 -- A read failed: exactly the lines of the paths that are whole in the bytes given were printed.
-pub record LocatedPart (pattern file : List ℕ) (given : ℕ) (taken taken' : Option (List ℕ)) (outcome : Outcome) (cause : Cause) : Type 0 where
-  pub lines : Appends taken taken' (lines_of pattern (contents_of_part mlocate given file))
-  pub answer : cause ≡ cause_of outcome (count_of pattern (contents_of_part mlocate given file))
+pub record LocatedBeforeReadFault (pattern file : List ℕ) (given : ℕ) (taken taken' : Option (List ℕ)) (cause : Cause) : Type 0 where
+  pub lines : Appends taken taken' (lines_of pattern (seen_in file given outcomes.ReadFault))
+  pub answer : cause ≡ cause_of outcomes.ReadFault (count_of pattern (seen_in file given outcomes.ReadFault))
 
 -- A write failed: a first part of the lines was printed.
-pub record LocatedInPart (pattern file : List ℕ) (taken taken' : Option (List ℕ)) (cause : Cause) : Type 0 where
+pub record LocatedBeforeWriteFault (pattern file : List ℕ) (taken taken' : Option (List ℕ)) (cause : Cause) : Type 0 where
   pub lines : AppendsPart taken taken' (lines_of pattern (paths_in file))
   pub answer : cause ≡ causes.WriteFault
 
 -- what was printed of a file that is there, by how its search ended
 abbrev pub FindsIn : List ℕ → List ℕ → ℕ → Option (List ℕ) → Option (List ℕ) → Outcome → Cause → Type 0
 FindsIn pattern file given taken taken' outcomes.Missing cause = ⊥
-FindsIn pattern file given taken taken' outcomes.ReadFault cause = LocatedPart pattern file given taken taken' outcomes.ReadFault cause
-FindsIn pattern file given taken taken' outcomes.WriteFault cause = LocatedInPart pattern file taken taken' cause
+FindsIn pattern file given taken taken' outcomes.ReadFault cause = LocatedBeforeReadFault pattern file given taken taken' cause
+FindsIn pattern file given taken taken' outcomes.WriteFault cause = LocatedBeforeWriteFault pattern file taken taken' cause
 FindsIn pattern file given taken taken' outcome cause = Located pattern file taken taken' outcome cause
 
--- a fact of the one outcome, where there is one
+-- a fact of the one outcome, where there is one; there is none where memory was wanting
 abbrev pub OfOutcome : List Outcome → (Outcome → Type 0) → Type 0
 OfOutcome (outcome ∷ []) P = P outcome
 OfOutcome outcomes P = outcomes ≡ []

@@ -16,7 +16,7 @@ pub enum Cause {
     Usage,
     /// A write of a path or a separator failed.
     WriteFault,
-    /// There was no memory for the outcomes. No database was opened.
+    /// There was no memory for the words or the outcomes. No database was opened.
     OutOfMemory,
 }
 

@@ -1,12 +1,12 @@
 //! The run of a call.
-ghost use Rattle.std.specs.Prelude.{◌≡◌, ◌≢◌, ◌↔◌, ◌≤◌, ◌<◌, ◌+◌, ◌-◌, ◌^◌, ◌∷◌, [], None, Some, IfSome, IsTrue, MatchBool, length, ⊤};
+ghost use Rattle.std.specs.Prelude.{◌≡◌, ◌↔◌, ◌≤◌, ◌<◌, ◌+◌, ◌-◌, ◌^◌, ◌∷◌, [], None, Some, IfSome, IsTrue, length};
 ghost use Rattle.std.specs.FinMap as map;
 ghost use Rattle.std.specs.Io.KnownBytes.{Appends};
 ghost use Rattle.loc_outside.specs.Causes.{Rose};
 ghost use Rattle.loc_outside.specs.Outside.{AppendsPart};
-ghost use Rattle.locate_engine.specs.Searched.{finds_no_file};
-ghost use Rattle.locate_tools.specs.Messages.{cause_message, outcome_message};
-ghost use Rattle.locate_tools.specs.Runs.{FindsIn, Located, OfOutcome, cause_of, is_out_of_memory, outcome_count, told};
+ghost use Rattle.locate_engine.specs.Searched.{is_missing_or_read_fault};
+ghost use Rattle.locate_tools.specs.Messages.{cause_message};
+ghost use Rattle.locate_tools.specs.Runs.{FindsIn, Located, OfOutcome, cause_of, outcome_count, told};
 ghost use Rattle.locate_tools.specs.Statuses.{status_of};
 ghost use Rattle.locate_tools.specs.Words.{asked};
 
@@ -45,21 +45,23 @@ fn search_one<R: Reader, P: Sink, L: Ledger>(
     out: &mut P,
     blank: Blank,
 ) -> Found
-    requires name { blank.name ≡ L.name }
-    requires parts { blank.parts ≡ L.parts }
-    requires some { 0 < L.parts }
-    ensures finds { IfSome (R.files reader.old) (λ files. IfSome (map.get files request.now.name.now) (λ file. R.given reader.old ≤ 2 ^ 62 →
+    requires blank_name { blank.name ≡ L.name }
+    requires blank_parts { blank.parts ≡ L.parts }
+    requires has_part { 0 < L.parts }
+    ensures finds { IfSome (R.files reader.old) (λ files. IfSome (map.get files request.now.name.now) (λ file. (result.outcome ≡ Outcome.ReadFault → R.given reader.old ≤ 2 ^ 62) →
         FindsIn request.now.pattern.now file (R.given reader.new - R.given reader.old) (P.taken out.old) (P.taken out.new) result.outcome result.cause)) }
-    ensures whole { IfSome (R.files reader.old) (λ files. IfSome (map.get files request.now.name.now) (λ file. R.given reader.old ≤ 2 ^ 62 →
-        (Rose (R.faults reader.old) (R.faults reader.new) → ⊥) → (Rose (P.faults out.old) (P.faults out.new) → ⊥) →
+    ensures whole { IfSome (R.files reader.old) (λ files. IfSome (map.get files request.now.name.now) (λ file. (Rose (R.faults reader.old) (R.faults reader.new) → ⊥) → (Rose (P.faults out.old) (P.faults out.new) → ⊥) →
         Located request.now.pattern.now file (P.taken out.old) (P.taken out.new) result.outcome result.cause)) }
     ensures missing { IfSome (R.files reader.old) (λ files. result.outcome ≡ Outcome.Missing → map.get files request.now.name.now ≡ None) }
-    ensures absent { IfSome (R.files reader.old) (λ files. map.get files request.now.name.now ≡ None → IsTrue (finds_no_file result.outcome)) }
+    ensures absent { IfSome (R.files reader.old) (λ files. map.get files request.now.name.now ≡ None → IsTrue (is_missing_or_read_fault result.outcome)) }
     ensures nothing { IfSome (R.files reader.old) (λ files. map.get files request.now.name.now ≡ None → (out.new ≡ out.old) × (result.cause ≡ Cause.NoMatch)) }
     ensures unopened { result.outcome ≡ Outcome.Missing → (out.new ≡ out.old) × (result.cause ≡ Cause.NoMatch) }
     ensures searched { (result.cause ≡ Cause.Usage → ⊥) × (result.cause ≡ Cause.OutOfMemory → ⊥) }
     ensures read_fault { result.outcome ≡ Outcome.ReadFault → Rose (R.faults reader.old) (R.faults reader.new) }
     ensures write_fault { result.cause ≡ Cause.WriteFault → Rose (P.faults out.old) (P.faults out.new) }
+    ensures write_cause { result.cause ≡ Cause.WriteFault ↔ (result.outcome ≡ Outcome.WriteFault) }
+    ensures given_rises { R.given reader.old ≤ R.given reader.new }
+    ensures given_within { R.given reader.new ≤ R.given reader.old + 2 ^ 40 }
     ensures files { R.files reader.new ≡ R.files reader.old }
     ensures later { R.faults reader.old ≤ R.faults reader.new }
     ensures out_later { P.faults out.old ≤ P.faults out.new }
@@ -117,17 +119,20 @@ pub fn run<R: Reader, P: Sink, E: Sink>(
     ensures refused { result.cause ≡ Cause.Usage → (reader.new ≡ reader.old) × (out.new ≡ out.old) }
     ensures no_memory { result.cause ≡ Cause.OutOfMemory → (reader.new ≡ reader.old) × (out.new ≡ out.old) }
     ensures missing { IfSome (asked call.now) (λ request. IfSome (R.files reader.old) (λ files. result.outcomes ≡ Outcome.Missing ∷ [] → map.get files request.name ≡ None)) }
-    ensures absent { IfSome (asked call.now) (λ request. IfSome (R.files reader.old) (λ files. map.get files request.name ≡ None → OfOutcome result.outcomes (λ outcome. IsTrue (finds_no_file outcome)))) }
-    ensures nothing { IfSome (asked call.now) (λ request. IfSome (R.files reader.old) (λ files. map.get files request.name ≡ None → out.new ≡ out.old)) }
-    ensures finds { IfSome (asked call.now) (λ request. IfSome (R.files reader.old) (λ files. IfSome (map.get files request.name) (λ file. R.given reader.old ≤ 2 ^ 62 →
+    ensures absent { IfSome (asked call.now) (λ request. IfSome (R.files reader.old) (λ files. map.get files request.name ≡ None → OfOutcome result.outcomes (λ outcome. IsTrue (is_missing_or_read_fault outcome)))) }
+    ensures nothing { IfSome (asked call.now) (λ request. IfSome (R.files reader.old) (λ files. map.get files request.name ≡ None → (out.new ≡ out.old) × OfOutcome result.outcomes (λ outcome. result.cause ≡ Cause.NoMatch))) }
+    ensures unopened { result.outcomes ≡ Outcome.Missing ∷ [] → (out.new ≡ out.old) × (result.cause ≡ Cause.NoMatch) }
+    ensures finds { IfSome (asked call.now) (λ request. IfSome (R.files reader.old) (λ files. IfSome (map.get files request.name) (λ file. (result.outcomes ≡ Outcome.ReadFault ∷ [] → R.given reader.old ≤ 2 ^ 62) →
         OfOutcome result.outcomes (λ outcome. FindsIn request.pattern file (R.given reader.new - R.given reader.old) (P.taken out.old) (P.taken out.new) outcome result.cause)))) }
-    ensures whole { IfSome (asked call.now) (λ request. IfSome (R.files reader.old) (λ files. IfSome (map.get files request.name) (λ file. R.given reader.old ≤ 2 ^ 62 →
-        (Rose (R.faults reader.old) (R.faults reader.new) → ⊥) → (Rose (P.faults out.old) (P.faults out.new) → ⊥) →
+    ensures whole { IfSome (asked call.now) (λ request. IfSome (R.files reader.old) (λ files. IfSome (map.get files request.name) (λ file. (Rose (R.faults reader.old) (R.faults reader.new) → ⊥) → (Rose (P.faults out.old) (P.faults out.new) → ⊥) →
         OfOutcome result.outcomes (λ outcome. Located request.pattern file (P.taken out.old) (P.taken out.new) outcome result.cause)))) }
     ensures read_fault { result.outcomes ≡ Outcome.ReadFault ∷ [] → Rose (R.faults reader.old) (R.faults reader.new) }
     ensures write_fault { result.cause ≡ Cause.WriteFault → Rose (P.faults out.old) (P.faults out.new) }
+    ensures write_cause { result.cause ≡ Cause.WriteFault ↔ (result.outcomes ≡ Outcome.WriteFault ∷ []) }
     ensures told { (Rose (E.faults err.old) (E.faults err.new) → ⊥) → Appends (E.taken err.old) (E.taken err.new) (told call.now result.outcomes result.cause) }
     ensures told_part { AppendsPart (E.taken err.old) (E.taken err.new) (told call.now result.outcomes result.cause) }
+    ensures given_rises { R.given reader.old ≤ R.given reader.new }
+    ensures given_within { R.given reader.new ≤ R.given reader.old + 2 ^ 40 }
     ensures files { R.files reader.new ≡ R.files reader.old }
     ensures later { R.faults reader.old ≤ R.faults reader.new }
     ensures out_later { P.faults out.old ≤ P.faults out.new }

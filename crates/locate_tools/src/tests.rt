@@ -474,12 +474,20 @@ impl Sink for OneByteSink {
 
 #[test]
 fn one_byte_at_a_time(rt: HostRuntime) -> Result<(), AllocError> {
-    for (name, status, out, err) in [
-        ("/x", 0, ALL, ""),
-        ("/none", 1, "", "locate: /none: no such database\n"),
-    ] {
+    let files: [(&[u8], &str, u8, &str, &str); 3] = [
+        (&TREE, "/x", 0, ALL, ""),
+        (
+            &TREE[..130],
+            "/x",
+            0,
+            ALL,
+            "locate: /x: damaged at byte 122: cut short\n",
+        ),
+        (&TREE, "/none", 1, "", "locate: /none: no such database\n"),
+    ];
+    for (file, name, status, out, err) in files {
         let mut reader = ByteByByte {
-            files: stored(rt.alloc(), &[&TREE])?,
+            files: stored(rt.alloc(), &[file])?,
         };
         let mut printed = OneByteSink {
             sink: MemSink::with_room(rt.alloc(), 100)?,

@@ -48,7 +48,7 @@ returns-in_default-clause-searched g c =
     let cost : g.M.Matcher.bound c.paths.matcher c.path.result.now ≡ g.M.Matcher.bound c.args.matcher.now p.text = ap (λ (b : List ℕ → ℕ). b c.path.result.now) c.paths.invariant.bound ∙ ap (g.M.Matcher.bound c.args.matcher.now) c.path.ensures in
     let part : AppendsPart (g.K.Sink.taken c.paths.out) (g.K.Sink.taken c.put_line.new.sink) (line_of wanted c.args.query.now.separator p) = subst (AppendsPart _ _) (line_yes wanted c.args.query.now.separator p _ c.path-then-wants.ensures passed) c.in_default.ensures.err in
     searches_part wanted (g.M.Matcher.bound c.args.matcher.now) c.args.query.now.separator _ _ before.0 p _ _ _ _ _ _ _ _ _ _ _
-    (moved_same _ _ _ _ _ _ _ _ (joined before.0 p) (moved_then _ _ _ _ _ _ _ _ _ _ _ before.1 one)) before.2 part before.3
+    (moved_same _ _ _ _ _ _ _ _ (joined before.0 p) (moved_then _ _ _ _ _ _ _ _ _ _ _ before.1 one)) before.2 part passed before.3
     (omega (arith, before.4, c.wants.ensures.within, cost, steps_one (g.M.Matcher.bound c.args.matcher.now) before.0 p))
 
 pub paths-preserved-then-wants : goal.paths-preserved-then-wants
