@@ -94,3 +94,21 @@ no_room = (refl, refl, refl)
 no_room_for_name : (entry_at 0 (0 ∷ 0 ∷ 2 ∷ []) ≡ Err (Broken EmptyName)) × (entry_at 0 (0 ∷ 97 ∷ []) ≡ Err (Broken LongPath)) × (entry_at 0 (1 ∷ []) ≡ Err (Broken Cut)) × (entry_at 0 (2 ∷ []) ≡ Ok (EndItem, []))
 unfolding ended_at entry_at
 no_room_for_name = (refl, refl, refl, refl)
+
+-- ---- of two broken rules the first is told, and it does not wait for what follows
+
+nanoseconds_before_the_path : ends (set (set (set (set (set small 80 59) 81 154) 82 202) 83 0) 88 0) ≡ damaged 72 BadNanos
+unfolding rest_of items_of items_within ended_at fixed_at header_at numbers_at head_at entry_at number
+nanoseconds_before_the_path = refl
+
+nanoseconds_at_the_end : ends (take 84 (set (set (set (set small 80 59) 81 154) 82 202) 83 0)) ≡ damaged 72 BadNanos
+unfolding rest_of items_of items_within ended_at fixed_at header_at numbers_at head_at entry_at number
+nanoseconds_at_the_end = refl
+
+version_before_the_flag : ends (set (set small 12 2) 13 7) ≡ damaged 0 BadVersion
+unfolding rest_of items_of items_within ended_at fixed_at header_at numbers_at head_at entry_at number
+version_before_the_flag = refl
+
+version_at_the_end : ends (take 14 (set small 12 2)) ≡ damaged 0 BadVersion
+unfolding rest_of items_of items_within ended_at fixed_at header_at numbers_at head_at entry_at number
+version_at_the_end = refl

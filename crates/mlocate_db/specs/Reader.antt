@@ -130,6 +130,14 @@ pub record ShowsEntry (r r' : ReaderState) : Type 0 where
 pub record ShowsEnd (r r' : ReaderState) : Type 0 where
   pub before : r.stage ≡ stages.Inside
   pub after : r'.stage ≡ stages.Between
+  pub stamp : r'.stamp ≡ r.stamp
+  pub device : r'.device ≡ r.device
+  pub heads : r'.heads ≡ r.heads
+
+-- no item was read
+pub record ShowsNone (r r' : ReaderState) : Type 0 where
+  pub stamp : r'.stamp ≡ r.stamp
+  pub device : r'.device ≡ r.device
   pub heads : r'.heads ≡ r.heads
 
 -- what the reader shows after a step, whatever its source tells
@@ -137,7 +145,8 @@ abbrev pub Shows : {E : Type 0} → Result Step E → ReaderState → ReaderStat
 Shows (Ok steps.Directory) r r' = ShowsHead r r'
 Shows (Ok (steps.Entry kind)) r r' = ShowsEntry r r'
 Shows (Ok steps.EndDirectory) r r' = ShowsEnd r r'
-Shows result r r' = r'.heads ≡ r.heads
+Shows (Ok steps.End) r r' = (r.stage ≡ stages.Between) × ShowsNone r r'
+Shows (Err fault) r r' = ShowsNone r r'
 
 -- whether a step goes on
 abbrev pub goes_on : {E : Type 0} → Result Step E → Bool

@@ -96,11 +96,14 @@ impl DbReader {
             heads: 0,
         }
     }
-    /// Reads the header. It is refused where no whole header begins the file, and then nothing can be read any more.
+
+    /// Reads the header. It is refused where no whole header begins the file or the source fails, and then nothing can
+    /// be read any more.
     pub fn start<S: Source>(&mut self, src: &mut S) -> Result<(), DbFault>
         requires { IsTrue (is_fresh self.old.stage) }
         ensures header { HeaderGives result self.old (S.left src.old) self.new (S.left src.new) }
         ensures live { is_live self.new.stage ≡ is_ok result }
+        ensures between { OnOk result (self.new.stage ≡ Stage.Between) }
         ensures spent { is_fresh self.new.stage ≡ false }
         ensures grows { OnOk result (self.old.place < self.new.place) }
         ensures stays { OnErr result (self.new.place ≡ self.old.place) }
@@ -120,8 +123,8 @@ impl DbReader {
         }
     }
 
-    /// Reads the header, as `start` does, and tells whether its root and its configuration block are these. The
-    /// block is compared as it is read, and not kept.
+    /// Reads the header, as `start` does and with its refusals, and tells whether its root and its configuration
+    /// block are these. The block is compared as it is read, and not kept.
     pub fn start_matching<S: Source>(
         &mut self,
         src: &mut S,
@@ -131,6 +134,7 @@ impl DbReader {
         requires { IsTrue (is_fresh self.old.stage) }
         ensures header { StartKnown result self.old (S.left src.old) self.new (S.left src.new) root.now block.now }
         ensures live { is_live self.new.stage ≡ is_ok result }
+        ensures between { OnOk result (self.new.stage ≡ Stage.Between) }
         ensures spent { is_fresh self.new.stage ≡ false }
         ensures grows { OnOk result (self.old.place < self.new.place) }
         ensures stays { OnErr result (self.new.place ≡ self.old.place) }
@@ -303,7 +307,8 @@ impl DbReader {
         }
     }
 
-    /// The path in hand: the directory's after `Directory`, the entry's after `Entry`.
+    /// The path in hand: the directory's after `Directory`, the entry's after `Entry`. After anything else it is of
+    /// no use.
     #[inline(always)]
     pub fn path(&self) -> &[u8]
         ensures value { result.now ≡ self.now.path }
@@ -312,7 +317,8 @@ impl DbReader {
         self.path.bytes()
     }
 
-    /// The length of the path of the directory in hand, which the path in hand begins with.
+    /// The length of the path of the directory in hand, which the path in hand begins with, after `Directory` and
+    /// `Entry`.
     #[inline(always)]
     pub fn directory_len(&self) -> usize
         ensures value { result ≡ self.now.dir_len }
@@ -321,7 +327,7 @@ impl DbReader {
         self.dir_len
     }
 
-    /// The time of the last directory.
+    /// The time of the last directory, 0 before the first.
     pub fn stamp(&self) -> Stamp
         ensures { result ≡ self.now.stamp }
     {

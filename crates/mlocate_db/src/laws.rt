@@ -15,8 +15,8 @@ pub fn front_is_longest()
     ensures unique { (s : State) (i j : Item) (a b : List ℕ) → allowed s i → allowed s j → spell i ++ a ≡ spell j ++ b → (i ≡ j) × (a ≡ b) }
 {}
 
-/// What breaks off the reading of an item is the first rule that is broken: no byte after it changes that. A file is cut
-/// short where some bytes more would be read on. It ends whole where it is the spelling of its front, is shorter than
+/// A broken rule of an item stays the cause of damage whatever bytes follow. A file is cut short where some bytes more
+/// would be read on. It ends whole where it is the spelling of its front, is shorter than
 /// the limit, and no directory is open.
 pub fn ending_is_first_fault()
     ensures stays { (s : State) (bytes more : List ℕ) (cause : DamageCause) → (cause ≡ Cut → ⊥) → item_at s bytes ≡ Err (Broken cause) → item_at s (bytes ++ more) ≡ Err (Broken cause) }

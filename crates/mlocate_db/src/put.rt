@@ -38,8 +38,8 @@ pub fn put_header<K: Sink>(
     put_all(sink, block)
 }
 
-/// Writes the head of a directory with its time. The device is 0 in version 0. After `Failed` a first part of it was
-/// taken.
+/// Writes the head of a directory with its time. The caller gives the device 0 in a database of version 0. After
+/// `Failed` a first part of it was taken.
 pub fn put_directory<K: Sink>(
     sink: &mut K,
     stamp: Stamp,
@@ -61,7 +61,8 @@ pub fn put_directory<K: Sink>(
     put_ended(sink, path)
 }
 
-/// Writes an entry of a directory. The name has room there. After `Failed` a first part of it was taken.
+/// Writes an entry of a directory. That the name is one and has room there is the caller's to see: one without room is
+/// read back as a path too long. After `Failed` a first part of it was taken.
 pub fn put_entry<K: Sink>(sink: &mut K, kind: Kind, name: &[u8]) -> Result<(), Failed>
     requires name { IsText max_path name.now }
     ensures ok { OnOk result (Appends (K.taken sink.old) (K.taken sink.new) (spell (EntryItem kind name.now))) }
