@@ -10,6 +10,7 @@ pub mod Numbers
 pub mod Rests
 pub mod Steady
 pub mod Steps
+pub mod Stops
 pub mod Streams
 pub mod Takes
 pub mod TakenOff

@@ -1,5 +1,5 @@
 -- Readers of so many bytes, run on what lies ahead in a feed.
-use Rattle.std.proofs.Common.{◌≡◌, ℕ, ◌+◌, ◌-◌, ◌<◌, ◌≤◌, Bool, true, false, cond, eqb, ltb, List, [], ◌∷◌, ◌++◌, length, take, drop, Option, Some, None, Result, Ok, Err, refl, sym, ap, ◌∙◌, append_assoc, append-nil, length-append, length-take, length-drop, arith, inl, inr}
+use Rattle.std.proofs.Common.{◌≡◌, eqb-true, ℕ, ◌+◌, ◌-◌, ◌<◌, ◌≤◌, Bool, true, false, cond, eqb, ltb, List, [], ◌∷◌, ◌++◌, length, take, drop, Option, Some, None, Result, Ok, Err, refl, sym, ap, ◌∙◌, append_assoc, append-nil, length-append, length-take, length-drop, arith, inl, inr}
 use Rattle.std.specs.Prelude.{nat_le, nat_eq, ◌&&◌}
 use Rattle.std.specs.List.{starts_with}
 use Rattle.byteorder.specs.Endian.{big_number}
@@ -15,8 +15,8 @@ use Rattle.byte_feed.specs.declared.damage.Break.{Break}
 use Rattle.byte_feed.specs.declared.damage.Break.TheVariants.{ReadFault, TooLarge, Stopped}
 use Rattle.byte_feed.specs.Front.{limit}
 use Rattle.byte_feed.specs.Field.{Reads, ◌>>=◌, magic_at, byte_at, number_at, demand}
-use Rattle.byte_feed.specs.Feed.{FeedState, file, window, so_far, TookKnown, IsAllAhead}
-use Rattle.byte_feed.specs.Stream.{is_cut, broken_at, Fails, Breaks, StreamGives}
+use Rattle.byte_feed.specs.Feed.{FeedState, file, window, so_far, TookKnown, IsAllAhead, reach}
+use Rattle.byte_feed.specs.Stream.{is_cut, broken_at, Fails, Breaks, BreaksAt, StreamGives}
 use Rattle.byte_feed.proofs.Fields.{ok_is, guard_ok, seq}
 use Rattle.byte_feed.proofs.Streams.{differ, done}
 use Rattle.byte_feed.proofs.TakenOff.{file_open, file_shut, took_then, took_held, window_took, more_took}
@@ -255,3 +255,22 @@ looked_err want n u read w f f' (Some a) (Some b) s t held all fits e =
           breaks_at read f a (length b) (f'.offset + n) s (ap read whole ∙ w.on text (take (limit - f'.offset - n) rest) (omega (arith, len, le)) ∙ ap (carry (take (limit - f'.offset - n) rest)) e)
           (λ cut. absurd (differ (sym (w.enough text s (omega (arith, len, le)) e) ∙ cut))))
     ]
+
+shut_by : (f : FeedState) (n : ℕ) (e : Bool) → f.ended ≡ e → IsAllAhead f n → eqb (f.offset + n) limit ≡ false → f.ended ≡ true
+shut_by f n true is all last = is
+shut_by f n false is all last = absurd (differ (sym last ∙ eq-eqb (f.offset + n) limit (all.last is)))
+
+broke_by : (X : Type 0) (f : FeedState) (n : ℕ) (s : Stop) (cut last : Bool) → is_cut s ≡ cut → eqb (f.offset + n) limit ≡ last → (is_cut s ≡ true → IsAllAhead f n) → BreaksAt {X = X} f (Err (cond (cut && last) TooLarge (Stopped s)))
+broke_by X f n s true true is at all = omega (arith, (all is).held, eqb-true (f.offset + n) limit at)
+broke_by X f n s true false is at all = λ h. shut_by f n f.ended refl (all is) at
+broke_by X f n s false last is at all = λ h. absurd (differ (sym is ∙ h))
+
+-- where reading broke off
+pub looked_broke : (X : Type 0) {Y : Type 0} (want n : ℕ) (read : Reads Y) → Wants want read → (f : FeedState) (s : Stop)
+    → n ≤ length f.held → (n < want → IsAllAhead f n) → read (take n f.held) ≡ Err s → BreaksAt {X = X} f (Err (broken_at (f.offset + n) s))
+looked_broke X want n read w f s held all e =
+    broke_by X f n s (is_cut s) (eqb (f.offset + n) limit) refl refl (λ cut.
+    elim (cases_lt n want) [
+      | inl lt ↦ all lt
+      | inr le ↦ absurd (differ (sym (w.enough (take n f.held) s (omega (arith, length-take n f.held, held, le)) e) ∙ cut))
+    ])

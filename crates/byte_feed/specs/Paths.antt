@@ -1,5 +1,6 @@
 -- What the rest of a file gives: its items, its paths, and how it ends after them.
 use Rattle.std.specs.Prelude.{◌≡◌, ℕ, ◌+◌, ◌≤◌, Bool, true, false, not, List, [], ◌∷◌, ◌++◌, length, take, drop, Option, Some, None, Result, Ok, Err, ◌==◌, ◌&&◌, if◌then◌else◌, ⊤, MatchBool}
+use Rattle.byte_feed.specs.declared.damage.DamageCause.TheVariants.{Cut}
 use Rattle.byte_feed.specs.declared.damage.DbFault.{DbFault}
 use Rattle.byte_feed.specs.declared.damage.DbFault.TheVariants as faults
 use Rattle.byte_feed.specs.declared.damage.Break.{Break}
@@ -8,7 +9,7 @@ use Rattle.byte_feed.specs.declared.damage.Stop.{Stop}
 use Rattle.byte_feed.specs.declared.damage.Stop.TheVariants.{NotADatabase, Broken}
 use Rattle.byte_feed.specs.Field.{IsText}
 use Rattle.byte_feed.specs.Front.{Format, limit, Window, on_ok, readable, items_of, spelling, left_by}
-use Rattle.byte_feed.specs.Feed.{FeedState, window, so_far}
+use Rattle.byte_feed.specs.Feed.{FeedState, window, so_far, reach}
 use Rattle.byte_feed.specs.Stream.{is_cut}
 
 -- ---- the ending
@@ -162,6 +163,14 @@ abbrev pub UnbegunKnown : (Window → Option (ℕ × Bool)) → FeedState → Op
 UnbegunKnown beginning f None left' fault = ⊤
 UnbegunKnown beginning f (Some l) None fault = ⊥
 UnbegunKnown beginning f (Some l) (Some l') fault = Unbegun beginning f l (length l') fault
+
+-- Where a file that ends so was left: all of it was read, or all below the limit, or it is damaged at this place.
+abbrev pub StopsAt : FeedState → ℕ → Ending → Type 0
+StopsAt f place (Ok x) = (f.held ≡ []) × (f.ended ≡ true)
+StopsAt f place (Err faults.NotADatabase) = ⊤
+StopsAt f place (Err faults.ReadFault) = ⊤
+StopsAt f place (Err faults.TooLarge) = reach f ≡ limit
+StopsAt f place (Err (faults.Damage d)) = (d.place ≡ place) × (d.cause ≡ Cut → f.ended ≡ true)
 
 -- a text of a path
 abbrev pub IsPath : List ℕ → Type 0

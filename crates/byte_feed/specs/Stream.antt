@@ -7,7 +7,7 @@ use Rattle.byte_feed.specs.declared.damage.Break.{Break}
 use Rattle.byte_feed.specs.declared.damage.Break.TheVariants.{ReadFault, TooLarge, Stopped}
 use Rattle.byte_feed.specs.Front.{limit}
 use Rattle.byte_feed.specs.Field.{Reads, bytes_at}
-use Rattle.byte_feed.specs.Feed.{FeedState, window, so_far, Took}
+use Rattle.byte_feed.specs.Feed.{FeedState, window, so_far, Took, reach}
 
 -- a byte past the last one is asked for
 abbrev pub is_cut : Stop → Bool
@@ -42,6 +42,13 @@ StreamGives view read f None f' left' r = ⊤
 StreamGives view read f (Some l) f' None r = ⊥
 StreamGives view read f (Some l) f' (Some l') (Ok x) = Gave read (view x) f l f' l'
 StreamGives view read f (Some l) f' (Some l') (Err b) = Breaks read f l (length l') b
+
+-- Reading broke off at the limit, or past the last byte of a source that has ended.
+abbrev pub BreaksAt : {X : Type 0} → FeedState → Result X Break → Type 0
+BreaksAt f (Ok x) = ⊤
+BreaksAt f (Err ReadFault) = ⊤
+BreaksAt f (Err TooLarge) = reach f ≡ limit
+BreaksAt f (Err (Stopped s)) = is_cut s ≡ true → f.ended ≡ true
 
 abbrev pub IsFault : {X : Type 0} → Result X Break → Type 0
 IsFault (Err ReadFault) = ⊤

@@ -1,6 +1,6 @@
 //! Why a database could not be read on.
 ghost use Rattle.std.specs.Prelude.{◌≡◌};
-ghost use Rattle.byte_feed.specs.Paths.{fault_at as fault_of};
+ghost use Rattle.byte_feed.specs.Paths.{fault_at as fault_by};
 
 /// The first rule that is broken when the bytes of an item are read in order.
 #[derive(Clone, Copy, Debug, PartialEq, Eq)]
@@ -75,7 +75,7 @@ pub enum DbFault {
 #[cold]
 #[inline(never)]
 pub fn fault_at(place: u64, cause: Break) -> DbFault
-    ensures { result ≡ fault_of place cause }
+    ensures { result ≡ fault_by place cause }
 {
     match cause {
         Break::ReadFault => DbFault::ReadFault,

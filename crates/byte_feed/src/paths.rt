@@ -1,9 +1,9 @@
 //! Streams of paths.
-ghost use Rattle.std.specs.Prelude.{◌≡◌, ◌<◌, ◌≤◌, ◌^◌, ◌∷◌, [], List, ℕ, Bool, Option, true, false, length, Result, Ok, Err, IfOk, IfErr, OnOk, OnErr, IsTrue, IsErrOf, is_ok};
+ghost use Rattle.std.specs.Prelude.{◌≡◌, ◌+◌, ◌<◌, ◌≤◌, ◌^◌, ◌∷◌, [], List, ℕ, Bool, Option, true, false, length, Result, Ok, Err, IfOk, IfErr, OnOk, OnErr, IsTrue, IsErrOf, is_ok};
 ghost use Rattle.loc_outside.specs.Causes.{Rose};
 ghost use Rattle.byte_feed.specs.Front.{Window};
 ghost use Rattle.byte_feed.specs.Feed.{FeedState, reach, Draws};
-ghost use Rattle.byte_feed.specs.Paths.{PathAt, ToCome, after_paths, no_paths, MovedKnown, EndsKnown, BeginsKnown, UnbegunKnown, IsPath, is_found};
+ghost use Rattle.byte_feed.specs.Paths.{PathAt, ToCome, after_paths, no_paths, MovedKnown, EndsKnown, StopsAt, BeginsKnown, UnbegunKnown, IsPath, is_found};
 
 use crate::damage::DbFault;
 use loc_outside::Source;
@@ -47,6 +47,7 @@ pub trait PathStream {
         ensures ok { OnOk result (MovedKnown (to_come self.old) (to_come self.new) (λ t. t) (feed self.old) (S.left src.old) (feed self.new) (S.left src.new)) }
         ensures refused { IfErr result (λ e. UnbegunKnown (beginning self.old) (feed self.old) (S.left src.old) (S.left src.new) e) }
         ensures err { IfErr result (λ e. EndsKnown (to_come self.old) (no_paths 0 0) (feed self.old) (S.left src.old) (S.left src.new) (Err e)) }
+        ensures stops { IfErr result (λ e. StopsAt (feed self.new) 0 (Err e)) }
         ensures grows { OnOk result (0 < stored self.new) }
         ensures stays { OnErr result (stored self.new ≡ 0) }
         ensures bound { stored self.new ≤ 2 ^ 40 }
@@ -67,6 +68,9 @@ pub trait PathStream {
         ensures path { IsTrue (is_found result) → MovedKnown (to_come self.old) (to_come self.new) (after_paths (found self.new ∷ [])) (feed self.old) (S.left src.old) (feed self.new) (S.left src.new) }
         ensures end { result ≡ Ok false → EndsKnown (to_come self.old) (no_paths (stored self.new) (heads_read self.new)) (feed self.old) (S.left src.old) (S.left src.new) (Ok tt) }
         ensures err { IfErr result (λ e. EndsKnown (to_come self.old) (no_paths (stored self.new) (heads_read self.new)) (feed self.old) (S.left src.old) (S.left src.new) (Err e)) }
+        ensures whole { result ≡ Ok false → StopsAt (feed self.new) (stored self.new) (Ok tt) }
+        ensures stops { IfErr result (λ e. StopsAt (feed self.new) (stored self.new) (Err e)) }
+        ensures near { (feed self.new).offset ≤ stored self.new + 2 ^ 14 }
         ensures text { IsTrue (is_found result) → IsPath (found self.new).text }
         ensures dir { IsTrue (is_found result) → (found self.new).dir_len ≤ length (found self.new).text }
         ensures at { IsTrue (is_found result) → ((found self.new).place ≡ stored self.new) × ((found self.new).heads ≡ heads_read self.new) }

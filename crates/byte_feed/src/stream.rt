@@ -1,10 +1,11 @@
-//! Fields of a stream. After a fault no more is read of a field, and what was read of it is gone.
+//! Fields of a stream. A field is read no further than it is whole: after a fault what was read of it is gone, and
+//! nothing after it was handed out.
 ghost use Rattle.std.specs.Prelude.{◌^◌, ⊤, None, ◌≡◌, ◌≤◌, ◌<◌, ◌+◌, ◌-◌, ◌↔◌, ◌∷◌, false, length, take, drop, OnOk, IfOk, IsTrue, min};
 ghost use Rattle.std.proofs.Common.{lit<};
 ghost use Rattle.loc_outside.specs.Causes.{Rose, last_count, stays_below};
 ghost use Rattle.byte_feed.specs.Field.{byte_at, ended_at, text_at, IsPlain, IsText};
 ghost use Rattle.byte_feed.specs.Feed.{reach, Draws};
-ghost use Rattle.byte_feed.specs.Stream.{StreamGives, SkipsKnown, MatchesKnown, IsFault, is_cut, broken_at as break_of};
+ghost use Rattle.byte_feed.specs.Stream.{StreamGives, SkipsKnown, MatchesKnown, IsFault, BreaksAt, is_cut, broken_at as break_of};
 
 use crate::damage::{Break, DamageCause, Stop};
 use crate::feed::{Feed, FeedFault, LIMIT};
@@ -26,6 +27,8 @@ pub fn broken_at(end: u64, stop: Stop) -> Break
 pub fn read_byte<S: Source>(feed: &mut Feed, src: &mut S) -> Result<u8, Break>
     ensures byte { StreamGives (λ b. b) byte_at feed.old (S.left src.old) feed.new (S.left src.new) result }
     ensures grows { OnOk result (feed.new.offset ≡ feed.old.offset + 1) }
+    ensures near { feed.new.offset ≤ feed.old.offset + 1 }
+    ensures broke { BreaksAt feed.new result }
     ensures drawn { Draws feed.old feed.new (S.given src.old) (S.given src.new) (S.left src.old) (S.left src.new) }
     ensures held { length feed.new.held ≤ 4096 }
     ensures reach { reach feed.new ≤ 2 ^ 40 }
@@ -54,6 +57,8 @@ pub fn read_ended<S: Source>(
     ensures begins { take (length into.old) into.new ≡ into.old }
     ensures plain { OnOk result (IsPlain (4096 - length into.old) (drop (length into.old) into.new)) }
     ensures grows { IfOk result (λ n. feed.new.offset ≡ feed.old.offset + (n + 1)) }
+    ensures near { feed.new.offset + length into.old ≤ feed.old.offset + 4097 }
+    ensures broke { BreaksAt feed.new result }
     ensures drawn { Draws feed.old feed.new (S.given src.old) (S.given src.new) (S.left src.old) (S.left src.new) }
     ensures held { length feed.new.held ≤ 4096 }
     ensures reach { reach feed.new ≤ 2 ^ 40 }
@@ -80,6 +85,8 @@ fn read_long_ended<S: Source>(
     ensures begins { take (length into.old) into.new ≡ into.old }
     ensures plain { OnOk result (IsPlain (4096 - length into.old) (drop (length into.old) into.new)) }
     ensures grows { IfOk result (λ n. feed.new.offset ≡ feed.old.offset + (n + 1)) }
+    ensures near { feed.new.offset + length into.old ≤ feed.old.offset + 4097 }
+    ensures broke { BreaksAt feed.new result }
     ensures drawn { Draws feed.old feed.new (S.given src.old) (S.given src.new) (S.left src.old) (S.left src.new) }
     ensures held { length feed.new.held ≤ 4096 }
     ensures reach { reach feed.new ≤ 2 ^ 40 }
@@ -116,6 +123,8 @@ pub fn read_text<S: Source>(
     ensures begins { take (length into.old) into.new ≡ into.old }
     ensures plain { OnOk result (IsText (4096 - length into.old) (drop (length into.old) into.new)) }
     ensures grows { OnOk result (feed.new.offset + length into.old ≡ feed.old.offset + (length into.new + 1)) }
+    ensures near { feed.new.offset + length into.old ≤ feed.old.offset + 4097 }
+    ensures broke { BreaksAt feed.new result }
     ensures drawn { Draws feed.old feed.new (S.given src.old) (S.given src.new) (S.left src.old) (S.left src.new) }
     ensures held { length feed.new.held ≤ 4096 }
     ensures reach { reach feed.new ≤ 2 ^ 40 }
@@ -139,6 +148,8 @@ pub fn match_bytes<S: Source>(
 ) -> Result<bool, Break>
     ensures matches { MatchesKnown count expected.now feed.old (S.left src.old) feed.new (S.left src.new) result }
     ensures grows { OnOk result (feed.new.offset ≡ feed.old.offset + count) }
+    ensures near { feed.new.offset ≤ feed.old.offset + count }
+    ensures broke { BreaksAt feed.new result }
     ensures drawn { Draws feed.old feed.new (S.given src.old) (S.given src.new) (S.left src.old) (S.left src.new) }
     ensures held { length feed.new.held ≤ 4096 }
     ensures reach { reach feed.new ≤ 2 ^ 40 }
@@ -190,6 +201,8 @@ fn begins_with(bytes: &[u8], byte: u8, piece: &[u8]) -> bool
 pub fn skip_bytes<S: Source>(feed: &mut Feed, src: &mut S, count: u32) -> Result<(), Break>
     ensures skips { SkipsKnown count feed.old (S.left src.old) feed.new (S.left src.new) result }
     ensures grows { OnOk result (feed.new.offset ≡ feed.old.offset + count) }
+    ensures near { feed.new.offset ≤ feed.old.offset + count }
+    ensures broke { BreaksAt feed.new result }
     ensures drawn { Draws feed.old feed.new (S.given src.old) (S.given src.new) (S.left src.old) (S.left src.new) }
     ensures held { length feed.new.held ≤ 4096 }
     ensures reach { reach feed.new ≤ 2 ^ 40 }

@@ -1,9 +1,9 @@
 //! A database, item by item.
-ghost use Rattle.std.specs.Prelude.{◌≡◌, ◌≤◌, ◌<◌, ◌^◌, ◌↔◌, true, false, length, take, Ok, Err, IfOk, IfErr, OnOk, OnErr, IsTrue, IsErrOf, is_ok};
+ghost use Rattle.std.specs.Prelude.{◌≡◌, ◌+◌, ◌≤◌, ◌<◌, ◌^◌, ◌↔◌, [], true, false, length, take, Ok, Err, IfOk, IfErr, OnOk, OnErr, IsTrue, IsErrOf, is_ok};
 ghost use Rattle.loc_outside.specs.Causes.{Rose};
 ghost use Rattle.byte_feed.specs.Feed.{empty_at, Draws, reach};
-ghost use Rattle.byte_feed.specs.Paths.{beginning_of};
-ghost use Rattle.byte_feed.specs.Stream.{IsFault};
+ghost use Rattle.byte_feed.specs.Paths.{beginning_of, StopsAt};
+ghost use Rattle.byte_feed.specs.Stream.{IsFault, BreaksAt};
 ghost use Rattle.mlocate_db.specs.Items.{mlocate};
 ghost use Rattle.mlocate_db.specs.Reader.{ReaderState, fresh_on, StepGives, StepBreaks, Shows, StartKnown, HeaderGives, goes_on, is_live, is_fresh, paths_left, path_found};
 
@@ -105,6 +105,7 @@ impl DbReader {
         ensures live { is_live self.new.stage ≡ is_ok result }
         ensures between { OnOk result (self.new.stage ≡ Stage.Between) }
         ensures spent { is_fresh self.new.stage ≡ false }
+        ensures stops { IfErr result (λ e. StopsAt self.new.feed self.new.place (Err e)) }
         ensures grows { OnOk result (self.old.place < self.new.place) }
         ensures stays { OnErr result (self.new.place ≡ self.old.place) }
         ensures bound { self.new.place ≤ 2 ^ 40 }
@@ -136,6 +137,7 @@ impl DbReader {
         ensures live { is_live self.new.stage ≡ is_ok result }
         ensures between { OnOk result (self.new.stage ≡ Stage.Between) }
         ensures spent { is_fresh self.new.stage ≡ false }
+        ensures stops { IfErr result (λ e. StopsAt self.new.feed self.new.place (Err e)) }
         ensures grows { OnOk result (self.old.place < self.new.place) }
         ensures stays { OnErr result (self.new.place ≡ self.old.place) }
         ensures bound { self.new.place ≤ 2 ^ 40 }
@@ -170,6 +172,9 @@ impl DbReader {
         ensures step { StepGives result self.old (S.left src.old) self.new (S.left src.new) }
         ensures shows { Shows result self.old self.new }
         ensures live { is_live self.new.stage ≡ goes_on result }
+        ensures whole { result ≡ Ok Step.End → StopsAt self.new.feed self.new.place (Ok tt) }
+        ensures stops { IfErr result (λ e. StopsAt self.new.feed self.new.place (Err e)) }
+        ensures near { self.new.feed.offset ≤ self.new.place + 4113 }
         ensures grows { IsTrue (goes_on result) → self.old.place < self.new.place }
         ensures stays { goes_on result ≡ false → self.new.place ≡ self.old.place }
         ensures bound { self.new.place ≤ 2 ^ 40 }
@@ -197,6 +202,9 @@ impl DbReader {
         ensures step { StepBreaks result self.old (S.left src.old) self.new (S.left src.new) }
         ensures shows { Shows result self.old self.new }
         ensures live { is_live self.new.stage ≡ goes_on result }
+        ensures whole { result ≡ Ok Step.End → (self.new.feed.held ≡ []) × (self.new.feed.ended ≡ true) }
+        ensures broke { BreaksAt self.new.feed result }
+        ensures near { self.new.feed.offset ≤ self.new.place + 4113 }
         ensures grows { IsTrue (goes_on result) → self.old.place < self.new.place }
         ensures stays { goes_on result ≡ false → self.new.place ≡ self.old.place }
         ensures bound { self.new.place ≤ 2 ^ 40 }
@@ -224,6 +232,9 @@ impl DbReader {
         ensures step { StepBreaks result self.old (S.left src.old) self.new (S.left src.new) }
         ensures shows { Shows result self.old self.new }
         ensures live { is_live self.new.stage ≡ goes_on result }
+        ensures whole { result ≡ Ok Step.End → (self.new.feed.held ≡ []) × (self.new.feed.ended ≡ true) }
+        ensures broke { BreaksAt self.new.feed result }
+        ensures near { self.new.feed.offset ≤ self.new.place + 4113 }
         ensures grows { IsTrue (goes_on result) → self.old.place < self.new.place }
         ensures stays { goes_on result ≡ false → self.new.place ≡ self.old.place }
         ensures bound { self.new.place ≤ 2 ^ 40 }
@@ -263,6 +274,9 @@ impl DbReader {
         ensures step { StepBreaks result self.old (S.left src.old) self.new (S.left src.new) }
         ensures shows { Shows result self.old self.new }
         ensures live { is_live self.new.stage ≡ goes_on result }
+        ensures whole { result ≡ Ok Step.End → (self.new.feed.held ≡ []) × (self.new.feed.ended ≡ true) }
+        ensures broke { BreaksAt self.new.feed result }
+        ensures near { self.new.feed.offset ≤ self.new.place + 4113 }
         ensures grows { IsTrue (goes_on result) → self.old.place < self.new.place }
         ensures stays { goes_on result ≡ false → self.new.place ≡ self.old.place }
         ensures bound { self.new.place ≤ 2 ^ 40 }

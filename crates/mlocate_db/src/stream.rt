@@ -3,7 +3,7 @@ ghost use Rattle.std.specs.Prelude.{◌≡◌, ◌≤◌, ◌-◌, ◌+◌, ◌<
 ghost use Rattle.loc_outside.specs.Causes.{Rose};
 ghost use Rattle.byte_feed.specs.Feed.{reach, Draws};
 ghost use Rattle.byte_feed.specs.Field.{IsText};
-ghost use Rattle.byte_feed.specs.Stream.{StreamGives, IsFault};
+ghost use Rattle.byte_feed.specs.Stream.{StreamGives, IsFault, BreaksAt};
 ghost use Rattle.mlocate_db.specs.Items.{fixed_at, numbers_at, head_at, as_head, name_at, entry_at, room_in, in_directory};
 ghost use Rattle.mlocate_db.specs.StreamItems.{HeaderKnown, listed_item, ListedAt};
 
@@ -17,6 +17,8 @@ use path_order::{Kind, PathBuf};
 fn read_fixed<S: Source>(feed: &mut Feed, src: &mut S) -> Result<Fixed, Break>
     ensures fixed { StreamGives (λ x. x) fixed_at feed.old (S.left src.old) feed.new (S.left src.new) result }
     ensures grows { OnOk result (feed.old.offset ≤ feed.new.offset) }
+    ensures near { feed.new.offset ≤ feed.old.offset + 16 }
+    ensures broke { BreaksAt feed.new result }
     ensures drawn { Draws feed.old feed.new (S.given src.old) (S.given src.new) (S.left src.old) (S.left src.new) }
     ensures held { length feed.new.held ≤ 4096 }
     ensures reach { reach feed.new ≤ 2 ^ 40 }
@@ -48,6 +50,7 @@ pub(crate) fn read_header<S: Source>(
 ) -> Result<(Fixed, bool), Break>
     ensures header { HeaderKnown block.now root.new feed.old (S.left src.old) feed.new (S.left src.new) result }
     ensures grows { OnOk result (feed.old.offset < feed.new.offset) }
+    ensures broke { BreaksAt feed.new result }
     ensures drawn { Draws feed.old feed.new (S.given src.old) (S.given src.new) (S.left src.old) (S.left src.new) }
     ensures held { length feed.new.held ≤ 4096 }
     ensures reach { reach feed.new ≤ 2 ^ 40 }
@@ -75,6 +78,8 @@ fn read_numbers<S: Source>(feed: &mut Feed, src: &mut S) -> Result<Numbers, Brea
     ensures numbers { StreamGives (λ x. x) numbers_at feed.old (S.left src.old) feed.new (S.left src.new) result }
     ensures nanos { IfOk result (λ n. n.nanos < 1000000000) }
     ensures grows { OnOk result (feed.old.offset ≤ feed.new.offset) }
+    ensures near { feed.new.offset ≤ feed.old.offset + 16 }
+    ensures broke { BreaksAt feed.new result }
     ensures drawn { Draws feed.old feed.new (S.given src.old) (S.given src.new) (S.left src.old) (S.left src.new) }
     ensures held { length feed.new.held ≤ 4096 }
     ensures reach { reach feed.new ≤ 2 ^ 40 }
@@ -106,6 +111,8 @@ pub(crate) fn read_head<S: Source>(
     ensures plain { OnOk result (IsText 4096 path.new) }
     ensures nanos { IfOk result (λ n. n.nanos < 1000000000) }
     ensures grows { OnOk result (feed.old.offset < feed.new.offset) }
+    ensures near { feed.new.offset ≤ feed.old.offset + 4113 }
+    ensures broke { BreaksAt feed.new result }
     ensures drawn { Draws feed.old feed.new (S.given src.old) (S.given src.new) (S.left src.old) (S.left src.new) }
     ensures held { length feed.new.held ≤ 4096 }
     ensures reach { reach feed.new ≤ 2 ^ 40 }
@@ -139,6 +146,8 @@ pub(crate) fn read_entry<S: Source>(
     ensures dir { OnOk result (take dir_len path.new ≡ take dir_len path.old) }
     ensures len { OnOk result (dir_len ≤ length path.new) }
     ensures grows { OnOk result (feed.old.offset < feed.new.offset) }
+    ensures near { feed.new.offset ≤ feed.old.offset + 4098 }
+    ensures broke { BreaksAt feed.new result }
     ensures drawn { Draws feed.old feed.new (S.given src.old) (S.given src.new) (S.left src.old) (S.left src.new) }
     ensures held { length feed.new.held ≤ 4096 }
     ensures reach { reach feed.new ≤ 2 ^ 40 }
@@ -178,6 +187,8 @@ fn read_name<S: Source>(
     ensures dir { OnOk result (take dir_len path.new ≡ take dir_len path.old) }
     ensures len { OnOk result (dir_len ≤ length path.new) }
     ensures grows { OnOk result (feed.old.offset < feed.new.offset) }
+    ensures near { feed.new.offset ≤ feed.old.offset + 4097 }
+    ensures broke { BreaksAt feed.new result }
     ensures drawn { Draws feed.old feed.new (S.given src.old) (S.given src.new) (S.left src.old) (S.left src.new) }
     ensures held { length feed.new.held ≤ 4096 }
     ensures reach { reach feed.new ≤ 2 ^ 40 }
