@@ -29,3 +29,7 @@ OpensAs (Some files) name (Err e) left = left ≡ Some []
 -- a first part of the piece was taken
 abbrev pub AppendsPart : Option (List ℕ) → Option (List ℕ) → List ℕ → Type 0
 AppendsPart old new piece = (n : ℕ) × (n ≤ length piece) × Appends old new (take n piece)
+
+-- a first part of the piece was taken, and not all of it
+abbrev pub AppendsShort : Option (List ℕ) → Option (List ℕ) → List ℕ → Type 0
+AppendsShort old new piece = (n : ℕ) × (n < length piece) × Appends old new (take n piece)

@@ -1,9 +1,10 @@
-use Rattle.std.proofs.Common.{arith, length-drop}
+use Rattle.std.proofs.Common.{length, ap, arith, length-drop}
 use Rattle.loc_outside.proofs.KnownSteps.{appends_more}
 use Rattle.loc_outside.proofs.put.put_all.Goals as goal
 
 pub loop-done-preserved : goal.loop-done-preserved
 loop-done-preserved g c = record {
+  same = λ none. absurd (omega (arith, ap length none, c.loop-done-test.true));
   within = omega (arith, c.in_ok-done.ensures.bound, length-drop c.loop-done.done c.args.piece.now);
   taken = appends_more _ _ _ _ _ _ c.loop-done.invariant.taken c.in_ok-done.ensures.bytes;
   faults = omega (arith, c.in_ok-done.ensures.cause.later);
