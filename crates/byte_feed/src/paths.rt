@@ -30,7 +30,7 @@ pub trait PathStream {
     /// Whether the paths are shown only to those who may list their directories.
     ghost is_gated: { Self → Bool };
 
-    /// The path that was found last.
+    /// The path that was found last, until the next is asked for.
     ghost found: { Self → PathAt };
 
     /// The number of bytes in the whole items so far.
@@ -87,7 +87,7 @@ pub trait PathStream {
         ensures later { S.faults src.old ≤ S.faults src.new }
         ensures kept { S.kept src.old src.new };
 
-    /// The path that was found last.
+    /// The path that was found last. It is of no use once a further one was asked for and not found.
     fn path(&self) -> &[u8]
         ensures { result.now ≡ (found self.now).text };
 
