@@ -1,4 +1,5 @@
 pub mod Beginnings
+pub mod CommonPrefix
 pub mod Compared
 pub mod Draws
 pub mod Endings

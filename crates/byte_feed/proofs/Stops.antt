@@ -1,5 +1,5 @@
 -- Where a file was left whose reading broke off.
-use Rattle.std.proofs.Common.{◌≡◌, ℕ, Err, refl, ap}
+use Rattle.std.proofs.Common.{ℕ, Err, refl, ap}
 use Rattle.byte_feed.specs.declared.damage.DamageCause.{DamageCause}
 use Rattle.byte_feed.specs.declared.damage.Stop.TheVariants.{NotADatabase, Broken}
 use Rattle.byte_feed.specs.declared.damage.Break.{Break}

@@ -15,7 +15,7 @@ use Rattle.byte_feed.specs.declared.damage.Break.{Break}
 use Rattle.byte_feed.specs.declared.damage.Break.TheVariants.{ReadFault, TooLarge, Stopped}
 use Rattle.byte_feed.specs.Front.{limit}
 use Rattle.byte_feed.specs.Field.{Reads, ◌>>=◌, magic_at, byte_at, number_at, demand}
-use Rattle.byte_feed.specs.Feed.{FeedState, file, window, so_far, TookKnown, IsAllAhead, reach}
+use Rattle.byte_feed.specs.Feed.{FeedState, file, window, so_far, TookKnown, IsAllAhead}
 use Rattle.byte_feed.specs.Stream.{is_cut, broken_at, Fails, Breaks, BreaksAt, StreamGives}
 use Rattle.byte_feed.proofs.Fields.{ok_is, guard_ok, seq}
 use Rattle.byte_feed.proofs.Streams.{differ, done}

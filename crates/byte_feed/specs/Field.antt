@@ -68,6 +68,10 @@ pub record IsPlain (room : ℕ) (text : List ℕ) : Type 0 where
   pub fits : length text ≤ room
   pub plain : All (λ b. 0 < b) text
 
+-- a path has at most so many bytes
+abbrev pub max_path : ℕ
+max_path = 4096
+
 -- from 1 to room bytes, none of them zero
 pub record IsText (room : ℕ) (text : List ℕ) : Type 0 where
   pub some : 0 < length text

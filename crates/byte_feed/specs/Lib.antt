@@ -2,4 +2,5 @@ pub mod Feed
 pub mod Field
 pub mod Front
 pub mod Paths
+pub mod Prefix
 pub mod Stream

@@ -1,5 +1,5 @@
 -- What the rest of a file gives: its items, its paths, and how it ends after them.
-use Rattle.std.specs.Prelude.{◌≡◌, ℕ, ◌+◌, ◌≤◌, Bool, true, false, not, List, [], ◌∷◌, ◌++◌, length, take, drop, Option, Some, None, Result, Ok, Err, ◌==◌, ◌&&◌, if◌then◌else◌, ⊤, MatchBool}
+use Rattle.std.specs.Prelude.{◌≡◌, ℕ, ◌+◌, ◌-◌, ◌≤◌, Bool, true, false, not, List, [], ◌∷◌, ◌++◌, length, take, drop, map, Option, Some, None, Result, Ok, Err, ◌==◌, ◌&&◌, if◌then◌else◌, ⊤, MatchBool}
 use Rattle.byte_feed.specs.declared.damage.DamageCause.TheVariants.{Cut}
 use Rattle.byte_feed.specs.declared.damage.DbFault.{DbFault}
 use Rattle.byte_feed.specs.declared.damage.DbFault.TheVariants as faults
@@ -7,7 +7,8 @@ use Rattle.byte_feed.specs.declared.damage.Break.{Break}
 use Rattle.byte_feed.specs.declared.damage.Break.TheVariants as breaks
 use Rattle.byte_feed.specs.declared.damage.Stop.{Stop}
 use Rattle.byte_feed.specs.declared.damage.Stop.TheVariants.{NotADatabase, Broken}
-use Rattle.byte_feed.specs.Field.{IsText}
+use Rattle.path_order.specs.Path.{base_of}
+use Rattle.byte_feed.specs.Field.{IsText, max_path}
 use Rattle.byte_feed.specs.Front.{Format, limit, Window, on_ok, readable, items_of, spelling, left_by}
 use Rattle.byte_feed.specs.Feed.{FeedState, window, so_far, reach}
 use Rattle.byte_feed.specs.Stream.{is_cut}
@@ -116,6 +117,15 @@ contents f file = to_come f f.begin 0 0 (readable file)
 abbrev pub contents_of_part : (f : Format) → ℕ → List ℕ → ToCome
 contents_of_part f n file = to_come f f.begin 0 0 (record { bytes = take limit (take n file); more = true })
 
+-- A file gives this list of paths, and ends whole.
+pub record GivesWhole (given : ToCome) (paths : List (List ℕ)) : Type 0 where
+  pub texts : map (λ (p : PathAt). p.text) given.paths ≡ paths
+  pub ends : given.ending ≡ Ok tt
+
+-- the length of what stands before the base name of a path, the slash included
+abbrev pub before_base : List ℕ → ℕ
+before_base path = length path - length (base_of path)
+
 -- ---- what a call does to the rest
 
 -- Some was given off the front of the rest of the file, and of the rest of each first part of it that had come.
@@ -174,7 +184,7 @@ StopsAt f place (Err (faults.Damage d)) = (d.place ≡ place) × (d.cause ≡ Cu
 
 -- a text of a path
 abbrev pub IsPath : List ℕ → Type 0
-IsPath text = IsText 4096 text
+IsPath text = IsText max_path text
 
 -- whether a call found a path
 abbrev pub is_found : {E : Type 0} → Result Bool E → Bool

@@ -4,7 +4,7 @@ use Rattle.std.proofs.lemmas.Bool.{lt-ltb, ltb-true}
 use Rattle.byte_feed.specs.declared.damage.DamageCause.{DamageCause}
 use Rattle.byte_feed.specs.declared.damage.DamageCause.TheVariants.{BadVersion, BadFlag, BadNanos, EmptyPath, EmptyName}
 use Rattle.byte_feed.specs.Front.{IsBytes, Laws}
-use Rattle.byte_feed.specs.Field.{magic_at, byte_at, bytes_at, number_at, demand, text_at, IsText, ended}
+use Rattle.byte_feed.specs.Field.{magic_at, byte_at, bytes_at, number_at, demand, text_at, IsText, ended, max_path}
 use Rattle.byte_feed.proofs.Fields.{seq, demand_ok, ok_is}
 use Rattle.byte_feed.proofs.Numbers.{length-big_bytes}
 use Rattle.byte_feed.proofs.Steady.{then_ok}
@@ -13,7 +13,7 @@ use Rattle.path_order.specs.declared.kind.Kind.{Kind}
 use Rattle.path_order.specs.declared.kind.Kind.TheVariants.{File, Directory}
 use Rattle.mlocate_db.specs.declared.item.Fixed.{Fixed}
 use Rattle.mlocate_db.specs.declared.item.Numbers.{Numbers}
-use Rattle.mlocate_db.specs.Items.{Header, Head, Item, HeaderItem, HeadItem, EntryItem, EndItem, magic, number, flag_byte, kind_byte, spell_fixed, spell_numbers, fixed_of, numbers_of, spell, max_path, room_in, IsFixed, IsNumbers, IsHeader, IsHead, State, AtStart, Between, Inside, allowed, fixed_at, as_header, header_at, numbers_at, as_head, head_at, name_at, listed_at, entry_at, item_at, mlocate}
+use Rattle.mlocate_db.specs.Items.{Header, Head, Item, HeaderItem, HeadItem, EntryItem, EndItem, magic, number, flag_byte, kind_byte, spell_fixed, spell_numbers, fixed_of, numbers_of, spell, room_in, IsFixed, IsNumbers, IsHeader, IsHead, State, AtStart, Between, Inside, allowed, fixed_at, as_header, header_at, numbers_at, as_head, head_at, name_at, listed_at, entry_at, item_at, mlocate}
 
 -- ---- steps
 

@@ -2,14 +2,14 @@
 use Rattle.std.proofs.Common.{◌≡◌, ℕ, zero, suc, ◌+◌, ◌<◌, eqb, ltb, List, ◌∷◌, ◌++◌, length, Ok, sym, ◌∙◌, subst, length-append, arith}
 use Rattle.byte_feed.specs.declared.damage.DamageCause.TheVariants.{BadVersion, BadFlag, BadNanos, EmptyPath, EmptyName}
 use Rattle.byte_feed.specs.Front.{Shrinks}
-use Rattle.byte_feed.specs.Field.{magic_at, byte_at, bytes_at, number_at, demand, text_at, ended}
+use Rattle.byte_feed.specs.Field.{magic_at, byte_at, bytes_at, number_at, demand, text_at, ended, max_path}
 use Rattle.byte_feed.proofs.Fields.{seq, ok_is}
 use Rattle.byte_feed.proofs.Takes.{byte_sized, bytes_sized, number_sized, magic_sized, text_sized}
 use Rattle.path_order.specs.declared.kind.Kind.{Kind}
 use Rattle.path_order.specs.declared.kind.Kind.TheVariants.{File, Directory}
 use Rattle.mlocate_db.specs.declared.item.Fixed.{Fixed}
 use Rattle.mlocate_db.specs.declared.item.Numbers.{Numbers}
-use Rattle.mlocate_db.specs.Items.{Header, Head, Item, HeaderItem, HeadItem, EntryItem, EndItem, magic, number, flag_byte, spell_fixed, spell_numbers, fixed_of, numbers_of, spell, max_path, State, AtStart, Between, Inside, room_in, fixed_at, as_header, header_at, numbers_at, as_head, head_at, name_at, listed_at, entry_at, item_at, mlocate}
+use Rattle.mlocate_db.specs.Items.{Header, Head, Item, HeaderItem, HeadItem, EntryItem, EndItem, magic, number, flag_byte, spell_fixed, spell_numbers, fixed_of, numbers_of, spell, State, AtStart, Between, Inside, room_in, fixed_at, as_header, header_at, numbers_at, as_head, head_at, name_at, listed_at, entry_at, item_at, mlocate}
 use Rattle.mlocate_db.proofs.ItemLaws.{length-number}
 
 pub length-fixed : (f : Fixed) → length (spell_fixed f) ≡ 16

@@ -1,11 +1,11 @@
 -- More bytes don't change how an item is read, but where a byte past the last one was asked for.
 use Rattle.std.proofs.Common.{ℕ, zero, suc, eqb, ltb}
 use Rattle.byte_feed.specs.declared.damage.DamageCause.TheVariants.{BadVersion, BadFlag, BadNanos, BadKind, EmptyPath, EmptyName}
-use Rattle.byte_feed.specs.Field.{magic_at, byte_at, bytes_at, number_at, text_at}
+use Rattle.byte_feed.specs.Field.{magic_at, byte_at, bytes_at, number_at, text_at, max_path}
 use Rattle.byte_feed.proofs.Steady.{Steady, bind_steady, pure_steady, stop_steady, demand_steady, byte_steady, bytes_steady, number_steady, magic_steady, text_steady}
 use Rattle.path_order.specs.declared.kind.Kind.{Kind}
 use Rattle.path_order.specs.declared.kind.Kind.TheVariants.{File, Directory}
-use Rattle.mlocate_db.specs.Items.{HeaderItem, HeadItem, EntryItem, EndItem, magic, max_path, State, AtStart, Between, Inside, room_in, fixed_at, as_header, header_at, numbers_at, as_head, head_at, name_at, listed_at, entry_at, item_at}
+use Rattle.mlocate_db.specs.Items.{HeaderItem, HeadItem, EntryItem, EndItem, magic, State, AtStart, Between, Inside, room_in, fixed_at, as_header, header_at, numbers_at, as_head, head_at, name_at, listed_at, entry_at, item_at}
 
 pub fixed_steady : Steady fixed_at
 unfolding fixed_at

@@ -7,7 +7,7 @@ use Rattle.byte_feed.specs.declared.damage.DamageCause.TheVariants.{BadVersion, 
 use Rattle.byte_feed.specs.declared.damage.Break.{Break}
 use Rattle.byte_feed.specs.declared.damage.Stop.{Stop}
 use Rattle.byte_feed.specs.declared.damage.Stop.TheVariants.{Broken}
-use Rattle.byte_feed.specs.Field.{Reads, ◌>>=◌, magic_at, byte_at, bytes_at, number_at, text_at, demand, IsText}
+use Rattle.byte_feed.specs.Field.{Reads, ◌>>=◌, magic_at, byte_at, bytes_at, number_at, text_at, demand, IsText, max_path}
 use Rattle.byte_feed.specs.Feed.{FeedState}
 use Rattle.byte_feed.specs.Stream.{StreamGives}
 use Rattle.byte_feed.proofs.Streams.{stream_then, stream_err, stream_ok}
@@ -17,7 +17,7 @@ use Rattle.mlocate_db.specs.declared.item.Fixed.{Fixed}
 use Rattle.mlocate_db.specs.declared.item.Numbers.{Numbers}
 use Rattle.mlocate_db.specs.declared.item.Listed.{Listed}
 use Rattle.mlocate_db.specs.declared.item.Listed.TheVariants as listeds
-use Rattle.mlocate_db.specs.Items.{Header, Head, Item, HeaderItem, HeadItem, EntryItem, AtStart, Between, Inside, magic, max_path, fixed_at, as_header, header_at, numbers_at, as_head, head_at, name_at, listed_at, entry_at, room_in, in_directory, item_at}
+use Rattle.mlocate_db.specs.Items.{Header, Head, Item, HeaderItem, HeadItem, EntryItem, AtStart, Between, Inside, magic, fixed_at, as_header, header_at, numbers_at, as_head, head_at, name_at, listed_at, entry_at, room_in, in_directory, item_at}
 use Rattle.mlocate_db.specs.StreamItems.{HeaderKnown, listed_item}
 
 -- ---- the parts that have a fixed length

@@ -3,7 +3,7 @@ use Rattle.std.proofs.Common.{◌≡◌, ℕ, ◌+◌, Bool, true, false, List, 
 use Rattle.byte_feed.specs.declared.damage.DamageCause.TheVariants.{EmptyPath}
 use Rattle.byte_feed.specs.declared.damage.Break.{Break}
 use Rattle.byte_feed.specs.declared.damage.DbFault.{DbFault}
-use Rattle.byte_feed.specs.Field.{bytes_at, text_at}
+use Rattle.byte_feed.specs.Field.{bytes_at, text_at, max_path}
 use Rattle.byte_feed.specs.Feed.{FeedState}
 use Rattle.byte_feed.specs.Front.{Window}
 use Rattle.byte_feed.specs.Stream.{StreamGives, MatchesKnown}
@@ -15,7 +15,7 @@ use Rattle.byte_feed.proofs.Takes.{bytes_again}
 use Rattle.mlocate_db.specs.declared.item.Fixed.{Fixed}
 use Rattle.mlocate_db.specs.declared.db_reader.Stage.{Stage}
 use Rattle.mlocate_db.specs.declared.db_reader.Stage.TheVariants as stages
-use Rattle.mlocate_db.specs.Items.{Header, HeaderItem, State, AtStart, Between, max_path, fixed_at, as_header, header_at, path_of, mlocate}
+use Rattle.mlocate_db.specs.Items.{Header, HeaderItem, State, AtStart, Between, fixed_at, as_header, header_at, path_of, mlocate}
 use Rattle.mlocate_db.specs.StreamItems.{HeaderKnown}
 use Rattle.mlocate_db.specs.Reader.{ReaderState, state_by, state_of, dir_of, is_fresh, rest_left, paths_left, HeaderGives, StartKnown}
 use Rattle.mlocate_db.proofs.ItemSizes.{mlocate_shrinks}

@@ -5,7 +5,7 @@ use Rattle.byteorder.specs.Endian.{big_bytes}
 use Rattle.path_order.specs.Path.{is_root, joined}
 use Rattle.byte_feed.specs.declared.damage.DamageCause.TheVariants.{BadVersion, BadFlag, BadNanos, BadKind, EmptyPath, EmptyName}
 use Rattle.byte_feed.specs.declared.damage.Stop.TheVariants.{Broken}
-use Rattle.byte_feed.specs.Field.{Reads, ◌>>=◌, magic_at, byte_at, bytes_at, number_at, text_at, demand, IsText, ended}
+use Rattle.byte_feed.specs.Field.{Reads, ◌>>=◌, magic_at, byte_at, bytes_at, number_at, text_at, demand, IsText, max_path, ended}
 use Rattle.byte_feed.specs.Front.{Format}
 use Rattle.path_order.specs.declared.kind.Kind.{Kind}
 use Rattle.path_order.specs.declared.kind.Kind.TheVariants.{File, Directory}
@@ -74,10 +74,6 @@ spell (EntryItem kind name) = kind_byte kind ∷ ended name
 spell EndItem = 2 ∷ []
 
 -- ---- which items may come
-
--- a path has at most so many bytes
-abbrev pub max_path : ℕ
-max_path = 4096
 
 -- the path that the entries of a directory go on from: its own, and a slash unless it is the root
 abbrev pub in_directory : List ℕ → List ℕ

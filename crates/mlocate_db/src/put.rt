@@ -3,8 +3,8 @@ ghost use Rattle.std.specs.Prelude.{◌≡◌, ◌<◌, ◌^◌, ◌∷◌, [], 
 ghost use Rattle.std.specs.Io.KnownBytes.{Appends};
 ghost use Rattle.loc_outside.specs.Causes.{HasCause};
 ghost use Rattle.loc_outside.specs.Outside.{AppendsPart};
-ghost use Rattle.byte_feed.specs.Field.{IsText, ended};
-ghost use Rattle.mlocate_db.specs.Items.{HeaderItem, HeadItem, EntryItem, EndItem, spell, spell_fixed, spell_numbers, kind_byte, max_path};
+ghost use Rattle.byte_feed.specs.Field.{IsText, ended, max_path};
+ghost use Rattle.mlocate_db.specs.Items.{HeaderItem, HeadItem, EntryItem, EndItem, spell, spell_fixed, spell_numbers, kind_byte};
 
 use crate::item::{Fixed, MAGIC, Numbers};
 use byteorder::{BigEndian, ByteOrder};
