@@ -1,3 +1,7 @@
+pub mod DirLemmas
+mod FittingNames
+pub mod KeyedLemmas
+pub mod KeyedMaps
 pub mod KnownSteps
 pub mod Parts
 mod StoredLemmas

@@ -1,7 +1,14 @@
--- What contracts see of the host's files.
-use Rattle.std.specs.Prelude.{ℕ}
+-- What contracts see of the host.
+use Rattle.std.specs.Prelude.{ℕ, Bool}
 
 -- how many bytes were given, and how many calls have failed
 pub record Counts : Type 0 where
   pub given : ℕ
+  pub faults : ℕ
+
+-- whether a listing is open, how often a directory was opened and looked up, and how many calls have failed
+pub record TreeCounts : Type 0 where
+  pub listing : Bool
+  pub openings : ℕ
+  pub stats : ℕ
   pub faults : ℕ

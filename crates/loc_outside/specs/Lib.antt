@@ -1,7 +1,14 @@
 pub mod Causes
 pub mod Files
+pub mod Held
+pub mod OutputLaws
+pub mod Trees
 pub mod Outside
 pub mod Stored
 pub mod Memory
+pub mod Edits
 pub mod Codes
+pub mod TreeCodes
+pub mod Keyed
+pub mod DirMap
 pub mod Host

@@ -1,8 +1,12 @@
 -- What contracts see of the forms in memory.
-use Rattle.std.specs.Prelude.{ℕ, ◌+◌, Bool, ◌&&◌, ◌||◌, ◌==◌, nat_lt, nat_le, List, [], length, min}
+use Rattle.std.specs.Prelude.{ℕ, ◌+◌, Bool, false, ◌&&◌, ◌||◌, ◌==◌, nat_lt, nat_le, List, [], length, min, None}
 use Rattle.std.specs.List.{list_any}
 use Rattle.loc_outside.specs.Causes.{last_count}
+use Rattle.std.specs.FinMap.{empty}
+use Rattle.path_order.specs.NameList.{Listed}
 use Rattle.loc_outside.specs.Files.{Files}
+use Rattle.loc_outside.specs.Held.{Held}
+use Rattle.loc_outside.specs.Trees.{Dirs}
 
 -- the calls that are to fail by their numbers, the calls made, and the faults told
 pub record Failures : Type 0 where
@@ -51,3 +55,33 @@ pub record SinkState : Type 0 where
 -- a write of the piece is refused: the call is to fail, or the piece isn't empty and there is no room
 abbrev pub refuses : SinkState → List ℕ → Bool
 refuses s piece = is_due s.failures || nat_lt 0 (length piece) && nat_le s.room (length s.taken)
+
+-- what is stored and pending, and the failures
+pub record OutputState : Type 0 where
+  pub held : Held
+  pub failures : Failures
+
+-- no file is stored, no name was begun, and no byte was taken
+abbrev pub empty_output : OutputState
+empty_output = record { held = record { stored = empty; name = None; pending = [] }; failures = no_failures }
+
+-- the directories, the names that the open listing has still to give, whether one is open, the two counts, and the failures
+pub record TreeState : Type 0 where
+  pub dirs : Dirs
+  pub rest : Listed
+  pub listing : Bool
+  pub openings : ℕ
+  pub stats : ℕ
+  pub failures : Failures
+
+-- these directories, of which none was opened or looked up
+abbrev pub fresh_tree : Dirs → TreeState
+fresh_tree dirs = record { dirs = dirs; rest = []; listing = false; openings = 0; stats = 0; failures = no_failures }
+
+-- other directories, of which none is open; the counts and the failures are the same
+abbrev pub with_dirs : Dirs → TreeState → TreeState
+with_dirs dirs tree = record { dirs = dirs; rest = []; listing = false; openings = tree.openings; stats = tree.stats; failures = tree.failures }
+
+-- one more look-up, of which the count stands still at its last value
+abbrev pub looked_up : TreeState → TreeState
+looked_up tree = record tree { stats = min (tree.stats + 1) last_count }

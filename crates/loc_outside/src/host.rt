@@ -1,8 +1,8 @@
 //! The host's files and streams. They tell no content.
-ghost use Rattle.std.specs.Prelude.{◌≡◌, None, ⊤, min};
+ghost use Rattle.std.specs.Prelude.{◌≡◌, ◌≤◌, None, ⊤, min};
 ghost use Rattle.std.specs.Io.{ReadsAtMost};
 ghost use Rattle.std.proofs.Common.{refl};
-ghost use Rattle.loc_outside.specs.Causes.{last_count, stays_below};
+ghost use Rattle.loc_outside.specs.Causes.{Rose, last_count, stays_below};
 ghost use Rattle.loc_outside.specs.Outside.{TakesPart};
 
 use crate::{Failed, Opened, Reader, Sink, Source};
@@ -13,6 +13,15 @@ use std::marker::Model;
 
 /// How often a call that a signal interrupts is tried.
 const MOST_TRIES: u32 = 1_000_000;
+
+/// Counts a fault.
+pub(crate) fn fault(count: &mut u64) -> Failed
+    ensures later { min count.old last_count ≤ min count.new last_count }
+    ensures rose { Rose (min count.old last_count) (min count.new last_count) }
+{
+    *count = count.saturating_add(1);
+    Failed
+}
 
 /// Reads once, and again where a signal interrupts it.
 fn read_some<R: Read>(reader: &mut R, into: &mut [u8]) -> Result<usize, Failed>
@@ -113,10 +122,7 @@ impl Source for HostFiles {
                 self.given = self.given.saturating_add(count as u64);
                 Ok(count)
             }
-            Err(_) => {
-                self.faults = self.faults.saturating_add(1);
-                Err(Failed)
-            }
+            Err(_) => Err(fault(&mut self.faults)),
         }
     }
 }
@@ -140,10 +146,7 @@ impl Reader for HostFiles {
             Err(error)
                 if error.kind() == ErrorKind::NotFound
                     || error.kind() == ErrorKind::NotADirectory => { Ok(Opened::Missing) }
-            Err(_) => {
-                self.faults = self.faults.saturating_add(1);
-                Err(Failed)
-            }
+            Err(_) => Err(fault(&mut self.faults)),
         }
     }
 }
@@ -187,8 +190,7 @@ impl Sink for HostOut {
 
     fn write(&mut self, piece: &[u8]) -> Result<usize, Failed> {
         let Ok(count) = write_some(&mut self.rt.stdout(), piece) else {
-            self.faults = self.faults.saturating_add(1);
-            return Err(Failed);
+            return Err(fault(&mut self.faults));
         };
         Ok(count)
     }
@@ -233,8 +235,7 @@ impl Sink for HostErr {
 
     fn write(&mut self, piece: &[u8]) -> Result<usize, Failed> {
         let Ok(count) = write_some(&mut self.rt.stderr(), piece) else {
-            self.faults = self.faults.saturating_add(1);
-            return Err(Failed);
+            return Err(fault(&mut self.faults));
         };
         Ok(count)
     }

@@ -1,18 +1,31 @@
 //! The outside: traits for what is read and written, and their forms in memory, over lent bytes and of the host.
 #![tactic(auto)]
 
+mod dir_map;
 mod failing;
 mod host;
+mod host_output;
+mod host_tree;
+mod keyed;
 mod mem_files;
+mod mem_output;
 mod mem_sink;
+mod mem_tree;
+mod name_map;
 mod put;
 mod slice;
 mod stored;
 mod traits;
+mod tree;
 
 pub use host::{HostErr, HostFiles, HostOut};
+pub use host_output::HostOutput;
+pub use host_tree::HostTree;
 pub use mem_files::MemFiles;
+pub use mem_output::MemOutput;
 pub use mem_sink::MemSink;
+pub use mem_tree::MemTree;
 pub use put::put_all;
 pub use slice::SliceSource;
-pub use traits::{Failed, Opened, Reader, Sink, Source};
+pub use traits::{Failed, Opened, Output, Reader, Sink, Source};
+pub use tree::{Listing, Times, Tree};

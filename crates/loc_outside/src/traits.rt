@@ -1,10 +1,12 @@
 //! The traits.
-ghost use Rattle.std.specs.Prelude.{◌≡◌, ◌<◌, ◌^◌, List, ℕ, length, OnErr};
+ghost use Rattle.std.specs.Prelude.{◌≡◌, ◌<◌, ◌^◌, List, ℕ, length, IsSome, IfSome, OnOk, OnErr};
 ghost use Rattle.std.specs.declared.option.Option.{Option};
 ghost use Rattle.std.specs.Io.{ReadsAtMost};
-ghost use Rattle.std.specs.Io.KnownBytes.{ReadConsumes, WriteAppends};
+ghost use Rattle.std.specs.Io.KnownBytes.{Appends, ReadConsumes, WriteAppends};
+ghost use Rattle.std.specs.Option.{option_map};
 ghost use Rattle.loc_outside.specs.Causes.{HasCause};
 ghost use Rattle.loc_outside.specs.Files.{Files};
+ghost use Rattle.loc_outside.specs.Held.{Held, begun, grown, committed};
 ghost use Rattle.loc_outside.specs.Outside.{GivesCount, TakesPart, OpensAs};
 
 use thiserror::Error;
@@ -104,4 +106,32 @@ pub trait Sink {
 
     /// The count of faults is below 2^64.
     ghost faults_below: { (s : Self) → faults s < 2 ^ 64 };
+}
+
+/// What takes files, one after another: a name is begun, the bytes that are taken then are pending, and a commit stores them.
+pub trait Output: Sink {
+    /// The files that it stores, the name that was begun and not yet committed, and the bytes taken since the last name
+    /// was begun, where it tells them.
+    ghost held: { Self → Option Held };
+
+    /// Begins a file of this name, in place of the one that was begun. No byte is pending then.
+    /// What the sink tells as taken is then not said. After `Failed` nothing has changed but the count of faults.
+    fn begin(&mut self, name: &str) -> Result<(), Failed>
+        ensures ok { OnOk result (held self.new ≡ option_map (begun name.now) (held self.old)) }
+        ensures err { OnErr result (held self.new ≡ held self.old) }
+        ensures err_taken { OnErr result (Self.taken self.new ≡ Self.taken self.old) }
+        ensures err_kept { OnErr result (Self.kept self.old self.new) }
+        ensures cause { HasCause (Self.faults self.old) (Self.faults self.new) result };
+
+    /// Stores the pending bytes under the name that was begun, in place of those that it had, and leaves all other files.
+    /// No name is begun then. After `Failed` the stored files and the name are the same. The pending bytes stay in any case.
+    fn commit(&mut self) -> Result<(), Failed>
+        requires { IfSome (held self.old) (λ held. IsSome held.name) }
+        ensures ok { OnOk result (held self.new ≡ option_map committed (held self.old)) }
+        ensures err { OnErr result (held self.new ≡ held self.old) }
+        ensures taken { Self.taken self.new ≡ Self.taken self.old }
+        ensures cause { HasCause (Self.faults self.old) (Self.faults self.new) result };
+
+    /// To take bytes changes no stored file and no name, and the pending bytes grow by those that are taken.
+    ghost keeps_held: { (s t : Self) (bytes : List ℕ) → Self.kept s t → Appends (Self.taken s) (Self.taken t) bytes → held t ≡ option_map (grown bytes) (held s) };
 }

@@ -3,3 +3,5 @@ pub mod NamesOrder
 pub mod OrderLemmas
 pub mod ParentLemmas
 pub mod PathLemmas
+pub mod SortLemmas
+mod SpanLemmas

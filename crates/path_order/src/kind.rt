@@ -8,3 +8,13 @@ pub enum Kind {
     /// A directory.
     Directory,
 }
+
+#[cfg(test)]
+mod tests {
+    use super::*;
+
+    #[test]
+    fn a_file_comes_before_a_directory(rt: HostRuntime) {
+        assert!(rt; Kind::File < Kind::Directory);
+    }
+}
