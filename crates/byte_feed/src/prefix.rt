@@ -4,7 +4,9 @@ ghost use Rattle.byte_feed.specs.Prefix.{common_prefix as prefix_of};
 
 /// How many bytes two texts have in common from the front on.
 pub fn common_prefix(a: &[u8], b: &[u8]) -> usize
-    ensures { result ≡ prefix_of a.now b.now }
+    ensures value { result ≡ prefix_of a.now b.now }
+    ensures left { result ≤ length a.now }
+    ensures right { result ≤ length b.now }
 {
     let len = a.len().min(b.len());
     let mut same = common_blocks(a, b);
