@@ -1,0 +1,5 @@
+use Rattle.locate02_db.proofs.Parts.{err_after}
+use Rattle.locate02_db.proofs.writer.put_ended.Goals as goal
+
+pub returns-clause-err : goal.returns-clause-err
+returns-clause-err g c = err_after _ _ _ _ _ _ c.in_ok-put_all.ensures.ok c.put_all-2.ensures.short
