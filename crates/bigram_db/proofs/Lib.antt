@@ -1,0 +1,17 @@
+pub mod EntryLaws
+pub mod EntryReads
+pub mod Grid
+pub mod InOrder
+pub mod ItemSteady
+pub mod Padded
+pub mod PairCounting
+pub mod PairPlaces
+pub mod Pieces
+pub mod Ranked
+pub mod ReaderSteps
+pub mod TableLaws
+pub mod Taken
+pub mod UnitLaws
+pub mod UnitPushes
+pub mod Words
+pub mod Written
