@@ -1,0 +1,12 @@
+pub mod BlockRooms
+pub mod ChangedRooms
+pub mod GivenRooms
+pub mod Parts
+pub mod Pieces
+pub mod Refusals
+pub mod Rooms
+pub mod Scans
+pub mod Searches
+pub mod Sets
+pub mod Slashes
+pub mod Uppers
