@@ -1,0 +1,82 @@
+-- The index of a mount table, row after row.
+use Rattle.std.proofs.Common.{◌≡◌, ◌≢◌, ℕ, ◌+◌, ◌<◌, List, [], ◌∷◌, ◌++◌, length, get_or, take, refl, sym, ◌∙◌, ap, append_assoc, subst, true, false, Some, None, Option, inl, inr, Vec}
+use Rattle.std.proofs.lemmas.Bool.{cases_Bool, false_from_ne_true, or_from, or_parts, both_ways}
+use Rattle.std.proofs.lemmas.List.{take_more}
+use Rattle.std.proofs.lemmas.Slice.Eq.{bytes_eq-Decides}
+use Rattle.std.specs.HashMap.{HashMap, UpdatesBy}
+use Rattle.std.specs.List.{list_any}
+use Rattle.std.specs.Map.{KeepsOthers}
+use Rattle.std.specs.Prelude.{bytes_eq}
+use Rattle.path_order.specs.Path.{is_normal}
+use Rattle.mount_table.specs.Index.{place_in, Indexes, IsIndex}
+use Rattle.mount_table.specs.Lookup.{is_at}
+use Rattle.mount_table.specs.Row.{MountRow}
+
+-- what is kept for other mount points
+other_place : {Y S : Type 0} (m n : HashMap (Vec ℕ Y) ℕ S) (key : Vec ℕ Y) (path : List ℕ) (place : Option ℕ) → UpdatesBy (λ x y. bytes_eq x.items y.items) (λ k. bytes_eq key.items k.items) m n place → (path ≢ key.items) → place_in n path ≡ place_in m path
+unfolding KeepsOthers
+other_place m n key path place h other =
+    h.3 (λ k. bytes_eq path k.items) (λ x y t. ap (λ (l : List ℕ). bytes_eq l y.items) ((bytes_eq-Decides path x.items).0 t))
+    (λ k t. false_from_ne_true _ (λ s. other ((bytes_eq-Decides path k.items).0 s ∙ sym ((bytes_eq-Decides key.items k.items).0 t))))
+
+-- one row more, at another path
+none_more : (rows : List MountRow) (row : MountRow) (path : List ℕ) → list_any (is_at path) rows ≡ false → is_at path row ≡ false → list_any (is_at path) (rows ++ row ∷ []) ≡ false
+none_more [] row path none other = or_from _ _ other refl
+none_more (first ∷ rows) row path none other =
+    let parts = or_parts (is_at path first) (list_any (is_at path) rows) none in
+    or_from _ _ parts.0 (none_more rows row path parts.1 other)
+
+extended : (rows : List MountRow) (row : MountRow) (path : List ℕ) (place : Option ℕ) → is_at path row ≡ false → Indexes rows path place → Indexes (rows ++ row ∷ []) path place
+extended rows row path None other h = λ normal. none_more rows row path (h normal) other
+extended rows row path (Some k) other h =
+    let last = h.0 in (
+      record {
+        before = last.before;
+        row = last.row;
+        after = last.after ++ row ∷ [];
+        whole = ap (λ (l : List MountRow). l ++ row ∷ []) last.whole ∙ append_assoc last.before (last.row ∷ last.after) (row ∷ []);
+        here = last.here;
+        at_path = last.at_path;
+        none_after = none_more last.after row path last.none_after other;
+      },
+      h.1,
+    )
+
+-- a row at a path that is not normal
+unseen : (rows : List MountRow) (row : MountRow) (path : List ℕ) (place : Option ℕ) → is_normal path ≡ false → Indexes rows path place → Indexes (rows ++ row ∷ []) path place
+unseen rows row path None odd h = λ normal. absurd (both_ways _ odd normal)
+unseen rows row path (Some k) odd h = absurd (both_ways _ odd h.1)
+
+-- a row whose mount point is not normal leaves the index as it is
+pub IsIndex-odd : {Y S : Type 0} (rows : List MountRow) (row : MountRow) (m : HashMap (Vec ℕ Y) ℕ S) → IsIndex rows m → is_normal row.point ≡ false → IsIndex (rows ++ row ∷ []) m
+IsIndex-odd rows row m h odd = record {
+  at_each = λ path. elim (cases_Bool (is_at path row)) [
+    | inl here ↦ unseen rows row path (place_in m path) (ap is_normal (sym ((bytes_eq-Decides row.point path).0 here)) ∙ odd) (h.at_each path)
+    | inr other ↦ extended rows row path (place_in m path) other (h.at_each path)
+  ];
+}
+
+-- the place of a row that was put in
+put_in : (rows : List MountRow) (row : MountRow) (place : ℕ) (path : List ℕ) → length rows ≡ place → is_at path row ≡ true → is_normal row.point ≡ true → Indexes (rows ++ row ∷ []) path (Some place)
+put_in rows row place path len here normal = (
+  record { before = rows; row = row; after = []; whole = refl; here = len; at_path = here; none_after = refl },
+  ap is_normal (sym ((bytes_eq-Decides row.point path).0 here)) ∙ normal,
+)
+
+-- a row whose mount point is normal is put in
+pub IsIndex-push : {Y S : Type 0} (rows : List MountRow) (row : MountRow) (place : ℕ) (m n : HashMap (Vec ℕ Y) ℕ S) (key : Vec ℕ Y) → IsIndex rows m → length rows ≡ place → is_normal row.point ≡ true → key.items ≡ row.point → UpdatesBy (λ x y. bytes_eq x.items y.items) (λ k. bytes_eq key.items k.items) m n (Some place) → IsIndex (rows ++ row ∷ []) n
+IsIndex-push rows row place m n key h len normal is updates = record {
+  at_each = λ path. elim (cases_Bool (is_at path row)) [
+    | inl here ↦
+        let same : path ≡ key.items = sym ((bytes_eq-Decides row.point path).0 here) ∙ sym is in
+        subst (λ (o : Option ℕ). Indexes (rows ++ row ∷ []) path o) (sym (ap (place_in n) same ∙ updates.1)) (put_in rows row place path len here normal)
+    | inr other ↦
+        let apart : path ≢ key.items = λ e. both_ways _ other ((bytes_eq-Decides row.point path).1 (sym is ∙ sym e)) in
+        subst (λ (o : Option ℕ). Indexes (rows ++ row ∷ []) path o) (sym (other_place m n key path (Some place) updates apart)) (extended rows row path (place_in m path) other (h.at_each path))
+  ];
+}
+
+-- the rows so far, and one more
+pub IsIndex-more : {Y S : Type 0} (rows : List MountRow) (place : ℕ) (row : MountRow) (m : HashMap (Vec ℕ Y) ℕ S) → place < length rows → row ≡ get_or rows place row → IsIndex (take place rows ++ row ∷ []) m → IsIndex (take (place + 1) rows) m
+IsIndex-more rows place row m within is h =
+    subst (λ (l : List MountRow). IsIndex l m) (ap (λ (x : MountRow). take place rows ++ x ∷ []) is ∙ sym (take_more rows place row within)) h

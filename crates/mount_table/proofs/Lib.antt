@@ -1,0 +1,9 @@
+pub mod DeviceLemmas
+pub mod EscapeLemmas
+pub mod FieldLemmas
+pub mod Positions
+pub mod RowLemmas
+pub mod TableLemmas
+pub mod PrefixLemmas
+pub mod IndexLemmas
+pub mod CoverLemmas

@@ -1,0 +1,30 @@
+-- The index of a mount table by mount points.
+use Rattle.std.specs.Prelude.{◌≡◌, ℕ, true, false, List, ◌∷◌, ◌++◌, length, bytes_eq, MatchOption, Option, Vec}
+use Rattle.std.specs.HashMap.{HashMap, get_by}
+use Rattle.std.specs.List.{list_any}
+use Rattle.path_order.specs.Path.{is_normal}
+use Rattle.mount_table.specs.Lookup.{is_at}
+use Rattle.mount_table.specs.Row.{MountRow}
+
+-- the place that is kept for a mount point
+abbrev pub place_in : {Y S : Type 0} → HashMap (Vec ℕ Y) ℕ S → List ℕ → Option ℕ
+place_in index point = get_by (λ key. bytes_eq point key.items) index
+
+-- the row at a place is at a path, and none after it is
+pub record IsLastAt (rows : List MountRow) (path : List ℕ) (place : ℕ) : Type 0 where
+  pub before : List MountRow
+  pub row : MountRow
+  pub after : List MountRow
+  pub whole : rows ≡ before ++ row ∷ after
+  pub here : length before ≡ place
+  pub at_path : is_at path row ≡ true
+  pub none_after : list_any (is_at path) after ≡ false
+
+-- the index gives the place of the last row at a path, where that is normal, and nothing where no row is at it
+abbrev pub Indexes : List MountRow → List ℕ → Option ℕ → Type 0
+Indexes rows path place =
+    MatchOption place (is_normal path ≡ true → list_any (is_at path) rows ≡ false) (λ k. IsLastAt rows path k × (is_normal path ≡ true))
+
+-- it does so at each path
+pub record IsIndex {Y S : Type 0} (rows : List MountRow) (index : HashMap (Vec ℕ Y) ℕ S) : Type 0 where
+  pub at_each : (path : List ℕ) → Indexes rows path (place_in index path)

@@ -1,0 +1,9 @@
+pub mod Device
+pub mod Escape
+pub mod Index
+pub mod Line
+pub mod Lookup
+pub mod Part
+pub mod Prefix
+pub mod Row
+pub mod Table
