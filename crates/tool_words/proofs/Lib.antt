@@ -1,0 +1,6 @@
+mod AskedLemmas
+mod CommandLemmas
+mod MatchLemmas
+mod NumberLemmas
+mod SettingsLemmas
+mod WordLemmas

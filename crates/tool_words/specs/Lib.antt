@@ -1,0 +1,11 @@
+pub mod Commands
+pub mod Matches
+pub mod Values
+pub mod Lists
+pub mod Tools
+pub mod Locate
+pub mod LocateSeen
+pub mod Updatedb
+pub mod UpdatedbSeen
+pub mod Asked
+pub mod AskedSeen
