@@ -1,0 +1,14 @@
+pub mod Lists
+pub mod Order
+pub mod Walk
+pub mod Sorted
+pub mod Members
+pub mod Parts
+pub mod Same
+pub mod Texts
+pub mod Pieces
+pub mod Told
+pub mod Sorting
+pub mod Asking
+pub mod Loop
+pub mod Visits

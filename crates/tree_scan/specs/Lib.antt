@@ -1,0 +1,9 @@
+pub mod Admitted
+pub mod Blocks
+pub mod Plan
+pub mod Plans
+pub mod Reach
+pub mod Records
+pub mod Stack
+pub mod Steps
+pub mod Walks

@@ -1,0 +1,22 @@
+//! The complete scan: a database of all that a tree shows, written as the tree is walked in path order.
+#![tactic(auto)]
+
+mod children;
+mod finding;
+mod laws;
+mod listing;
+mod pending;
+mod progress;
+mod put;
+mod rules;
+mod scanning;
+#[cfg(test)]
+mod tests;
+mod visiting;
+mod voucher;
+mod walking;
+
+pub use laws::walk_is_in_path_order;
+pub use rules::{Counts, Limits, Rules, ScanFault};
+pub use scanning::scan;
+pub use voucher::{NoVoucher, Voucher};

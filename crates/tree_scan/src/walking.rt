@@ -1,0 +1,146 @@
+//! The steps of the walk.
+ghost use Rattle.std.specs.Prelude.{◌≡◌, ◌≤◌, ◌<◌, ◌+◌, ◌*◌, ◌⊎◌, ◌∷◌, [], length, OnOk, OnErr, IfErr, IfSome, IsTrue, IsErrOf, false};
+ghost use Rattle.std.specs.declared.cmp.Ordering.TheVariants.{Less};
+ghost use Rattle.std.specs.FinMap.{get};
+ghost use Rattle.path_order.specs.Order.{path_cmp};
+ghost use Rattle.path_order.specs.Path.{is_normal};
+ghost use Rattle.loc_outside.specs.Causes.{Rose, raised};
+ghost use Rattle.loc_outside.specs.Trees.{Dirs, Dir};
+ghost use Rattle.tree_scan.specs.Blocks.{time_of};
+ghost use Rattle.tree_scan.specs.Plans.{plan_of};
+ghost use Rattle.tree_scan.specs.Records.{Leaves, Relied};
+ghost use Rattle.tree_scan.specs.Reach.{is_tried};
+ghost use Rattle.tree_scan.specs.Steps.{here, weight};
+ghost use Rattle.tree_scan.specs.Walks.{standing, Passes, Breaks, Counted, AddsChildren, FloorMoves, NamesMore, is_whole_after, opens};
+
+use crate::progress::Progress;
+use crate::visiting::visit;
+use crate::{Limits, Rules, ScanFault, Voucher};
+use loc_outside::{Sink, Tree};
+use path_order::{NameList, PathBuf, Stamp, later};
+
+/// Comes to the root, which is there.
+pub(crate) fn come<T: Tree, V: Voucher, D: Sink, P: Sink>(
+    rules: &Rules,
+    now: Stamp,
+    limits: &Limits,
+    tree: &mut T,
+    voucher: &mut V,
+    sink: &mut D,
+    echo: &mut P,
+    path: &mut PathBuf,
+    time: Stamp,
+    names: &mut NameList,
+    progress: &mut Progress,
+) -> Result<(), ScanFault>
+    requires limits { limits.now.names ≤ 16777216 }
+    requires directories { limits.now.directories ≤ 4294967295 }
+    requires tried { progress.old.tried ≤ limits.now.directories }
+    requires counted { Counted progress.old }
+    requires sound { IsTrue (V.sound voucher.old) }
+    requires floor { IfSome (V.floor voucher.old) (λ floor. path_cmp floor path.old ≡ Less) }
+    requires normal { IsTrue (is_normal path.old) }
+    ensures no_missing { IsErrOf result ScanFault.RootMissing → ⊥ }
+    ensures done { OnOk result ((dirs : Dirs) → T.dirs tree.old ≡ Some dirs → (there : Dir) → get dirs path.old ≡ Some there → time ≡ time_of there.times → ((dir : Dir) → get dirs path.old ≡ Some dir → (plan_of rules.now).pruned path.old ≡ false → Relied (V.records voucher.old) ((plan_of rules.now).device_of path.old) path.old dir) → Passes dirs (plan_of rules.now) now path.old (standing (D.taken sink.old) (P.taken echo.old) progress.old) (standing (D.taken sink.new) (P.taken echo.new) progress.new)) }
+    ensures breaks { OnErr result ((dirs : Dirs) → T.dirs tree.old ≡ Some dirs → (there : Dir) → get dirs path.old ≡ Some there → time ≡ time_of there.times → ((dir : Dir) → get dirs path.old ≡ Some dir → (plan_of rules.now).pruned path.old ≡ false → Relied (V.records voucher.old) ((plan_of rules.now).device_of path.old) path.old dir) → Breaks dirs (plan_of rules.now) now path.old (D.taken sink.old) (D.taken sink.new) (P.taken echo.old) (P.taken echo.new)) }
+    ensures seen { (dirs : Dirs) → T.dirs tree.old ≡ Some dirs → (there : Dir) → get dirs path.old ≡ Some there → time ≡ time_of there.times → progress.new.tried ≤ progress.old.tried + length (here dirs (is_tried (plan_of rules.now).pruned) path.old) }
+    ensures many { IsErrOf result ScanFault.TooManyDirectories → (dirs : Dirs) → T.dirs tree.old ≡ Some dirs → (there : Dir) → get dirs path.old ≡ Some there → time ≡ time_of there.times → limits.now.directories < progress.old.tried + length (here dirs (is_tried (plan_of rules.now).pruned) path.old) }
+    ensures many_names { IsErrOf result ScanFault.TooManyNames → (dirs : Dirs) → T.dirs tree.old ≡ Some dirs → (there : Dir) → get dirs path.old ≡ Some there → time ≡ time_of there.times → NamesMore dirs (plan_of rules.now).pruned limits.now.names path.old }
+    ensures more { OnOk result (length progress.new.pending + 16777216 * progress.old.tried ≤ length progress.old.pending + 16777216 * progress.new.tried) }
+    ensures rises { OnOk result (progress.old.tried ≤ progress.new.tried) }
+    ensures opened { (dirs : Dirs) → T.dirs tree.old ≡ Some dirs → (there : Dir) → get dirs path.old ≡ Some there → time ≡ time_of there.times → IsTrue (V.whole voucher.new) → T.openings tree.new ≤ T.openings tree.old + opens (V.records voucher.old) dirs (plan_of rules.now) path.old }
+    ensures exact { OnOk result ((dirs : Dirs) → T.dirs tree.old ≡ Some dirs → (there : Dir) → get dirs path.old ≡ Some there → time ≡ time_of there.times → IsTrue (V.whole voucher.new) → T.openings tree.new ≡ raised (T.openings tree.old) (opens (V.records voucher.old) dirs (plan_of rules.now) path.old)) }
+    ensures stats { T.stats tree.new ≡ T.stats tree.old }
+    ensures whole { IfErr result (λ e. IsTrue (is_whole_after e) → (D.taken sink.new ≡ D.taken sink.old) × (P.taken echo.new ≡ P.taken echo.old)) }
+    ensures quiet { (plan_of rules.now).verbose ≡ false → echo.new ≡ echo.old }
+    ensures within { progress.new.tried ≤ limits.now.directories }
+    ensures counted { OnOk result (Counted progress.new) }
+    ensures adds { OnOk result (AddsChildren path.old progress.old.pending progress.new.pending) }
+    ensures leaves { Leaves path.old (V.records voucher.old) (V.whole voucher.old) (V.records voucher.new) (V.whole voucher.new) }
+    ensures floor { OnOk result (FloorMoves path.old (V.floor voucher.old) (V.floor voucher.new)) }
+    ensures sound { OnOk result (IsTrue (V.sound voucher.new)) }
+    ensures voucher_kept { V.kept voucher.old voucher.new }
+    ensures openings { T.openings tree.new + progress.old.tried ≤ T.openings tree.old + progress.new.tried }
+    ensures later { T.faults tree.old ≤ T.faults tree.new }
+    ensures fault { IsErrOf result ScanFault.TreeFault → Rose (T.faults tree.old) (T.faults tree.new) }
+    ensures kept { T.kept tree.old tree.new }
+    ensures sink_later { D.faults sink.old ≤ D.faults sink.new }
+    ensures echo_later { P.faults echo.old ≤ P.faults echo.new }
+    ensures write_fault { IsErrOf result ScanFault.WriteFault → Rose (D.faults sink.old) (D.faults sink.new) ⊎ IsTrue (plan_of rules.now).verbose × Rose (P.faults echo.old) (P.faults echo.new) }
+    ensures sink_kept { D.kept sink.old sink.new }
+    ensures echo_kept { P.kept echo.old echo.new }
+{
+    if rules.prunes(path.bytes()) {
+        return Ok(());
+    }
+    visit(
+        rules, now, limits, tree, voucher, sink, echo, path, time, names, progress,
+    )?;
+    Ok(())
+}
+
+/// Comes to a pending directory.
+pub(crate) fn step<T: Tree, V: Voucher, D: Sink, P: Sink>(
+    rules: &Rules,
+    now: Stamp,
+    limits: &Limits,
+    tree: &mut T,
+    voucher: &mut V,
+    sink: &mut D,
+    echo: &mut P,
+    path: &mut PathBuf,
+    names: &mut NameList,
+    progress: &mut Progress,
+) -> Result<(), ScanFault>
+    requires limits { limits.now.names ≤ 16777216 }
+    requires directories { limits.now.directories ≤ 4294967295 }
+    requires tried { progress.old.tried ≤ limits.now.directories }
+    requires counted { Counted progress.old }
+    requires sound { IsTrue (V.sound voucher.old) }
+    requires floor { IfSome (V.floor voucher.old) (λ floor. path_cmp floor path.old ≡ Less) }
+    requires normal { IsTrue (is_normal path.old) }
+    ensures no_missing { IsErrOf result ScanFault.RootMissing → ⊥ }
+    ensures done { OnOk result ((dirs : Dirs) → T.dirs tree.old ≡ Some dirs → ((dir : Dir) → get dirs path.old ≡ Some dir → (plan_of rules.now).pruned path.old ≡ false → Relied (V.records voucher.old) ((plan_of rules.now).device_of path.old) path.old dir) → Passes dirs (plan_of rules.now) now path.old (standing (D.taken sink.old) (P.taken echo.old) progress.old) (standing (D.taken sink.new) (P.taken echo.new) progress.new)) }
+    ensures breaks { OnErr result ((dirs : Dirs) → T.dirs tree.old ≡ Some dirs → ((dir : Dir) → get dirs path.old ≡ Some dir → (plan_of rules.now).pruned path.old ≡ false → Relied (V.records voucher.old) ((plan_of rules.now).device_of path.old) path.old dir) → Breaks dirs (plan_of rules.now) now path.old (D.taken sink.old) (D.taken sink.new) (P.taken echo.old) (P.taken echo.new)) }
+    ensures seen { (dirs : Dirs) → T.dirs tree.old ≡ Some dirs → progress.new.tried ≤ progress.old.tried + length (here dirs (is_tried (plan_of rules.now).pruned) path.old) }
+    ensures many { IsErrOf result ScanFault.TooManyDirectories → (dirs : Dirs) → T.dirs tree.old ≡ Some dirs → limits.now.directories < progress.old.tried + length (here dirs (is_tried (plan_of rules.now).pruned) path.old) }
+    ensures many_names { IsErrOf result ScanFault.TooManyNames → (dirs : Dirs) → T.dirs tree.old ≡ Some dirs → NamesMore dirs (plan_of rules.now).pruned limits.now.names path.old }
+    ensures more { OnOk result (length progress.new.pending + 16777216 * progress.old.tried ≤ length progress.old.pending + 16777216 * progress.new.tried) }
+    ensures rises { OnOk result (progress.old.tried ≤ progress.new.tried) }
+    ensures opened { (dirs : Dirs) → T.dirs tree.old ≡ Some dirs → IsTrue (V.whole voucher.new) → T.openings tree.new ≤ T.openings tree.old + opens (V.records voucher.old) dirs (plan_of rules.now) path.old }
+    ensures exact { OnOk result ((dirs : Dirs) → T.dirs tree.old ≡ Some dirs → IsTrue (V.whole voucher.new) → T.openings tree.new ≡ raised (T.openings tree.old) (opens (V.records voucher.old) dirs (plan_of rules.now) path.old)) }
+    ensures stats { T.stats tree.new ≤ T.stats tree.old + weight (plan_of rules.now).pruned (T.priced tree.old) (path.old ∷ []) }
+    ensures whole { IfErr result (λ e. IsTrue (is_whole_after e) → (D.taken sink.new ≡ D.taken sink.old) × (P.taken echo.new ≡ P.taken echo.old)) }
+    ensures quiet { (plan_of rules.now).verbose ≡ false → echo.new ≡ echo.old }
+    ensures within { progress.new.tried ≤ limits.now.directories }
+    ensures counted { OnOk result (Counted progress.new) }
+    ensures adds { OnOk result (AddsChildren path.old progress.old.pending progress.new.pending) }
+    ensures leaves { Leaves path.old (V.records voucher.old) (V.whole voucher.old) (V.records voucher.new) (V.whole voucher.new) }
+    ensures floor { OnOk result (FloorMoves path.old (V.floor voucher.old) (V.floor voucher.new)) }
+    ensures sound { OnOk result (IsTrue (V.sound voucher.new)) }
+    ensures voucher_kept { V.kept voucher.old voucher.new }
+    ensures openings { T.openings tree.new + progress.old.tried ≤ T.openings tree.old + progress.new.tried }
+    ensures later { T.faults tree.old ≤ T.faults tree.new }
+    ensures fault { IsErrOf result ScanFault.TreeFault → Rose (T.faults tree.old) (T.faults tree.new) }
+    ensures kept { T.kept tree.old tree.new }
+    ensures sink_later { D.faults sink.old ≤ D.faults sink.new }
+    ensures echo_later { P.faults echo.old ≤ P.faults echo.new }
+    ensures write_fault { IsErrOf result ScanFault.WriteFault → Rose (D.faults sink.old) (D.faults sink.new) ⊎ IsTrue (plan_of rules.now).verbose × Rose (P.faults echo.old) (P.faults echo.new) }
+    ensures sink_kept { D.kept sink.old sink.new }
+    ensures echo_kept { P.kept echo.old echo.new }
+{
+    if rules.prunes(path.bytes()) {
+        return Ok(());
+    }
+    let Ok(found) = tree.stat(path.bytes()) else {
+        return Err(ScanFault::TreeFault);
+    };
+    let Some(times) = found else {
+        return Ok(());
+    };
+    let time = later(times.modified, times.changed);
+    visit(
+        rules, now, limits, tree, voucher, sink, echo, path, time, names, progress,
+    )?;
+    Ok(())
+}
