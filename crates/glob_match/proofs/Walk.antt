@@ -1,7 +1,7 @@
 -- The walk over items and text that goes back to the last star.
-use Rattle.std.proofs.Common.{◌≡◌, ℕ, zero, suc, ◌+◌, ◌-◌, ◌<◌, ◌≤◌, List, [], ◌∷◌, length, take, drop, get_or, Contains, Some, refl, sym, ap, subst, ◌∙◌, arith, add-one, slice_get, length-drop, take-append-drop, append-nil, IfSome, IsTrue, ◌↔◌, Bool, true, false}
+use Rattle.std.proofs.Common.{◌≡◌, ℕ, zero, suc, ◌+◌, ◌-◌, ◌<◌, ◌≤◌, List, [], ◌∷◌, length, take, drop, get_or, Contains, ⊎_elim, Some, refl, sym, ap, subst, ◌∙◌, arith, add-one, slice_get, length-drop, take-append-drop, append-nil, IfSome, IsTrue, ◌↔◌, Bool, true, false}
 use Rattle.std.proofs.lemmas.List.{drop-drop, get_or-drop}
-use Rattle.std.proofs.lemmas.Bool.{false≢true}
+use Rattle.std.proofs.lemmas.Bool.{false≢true, cases_lt}
 use Rattle.std.proofs.Math.Seq.{drop-append_seam, drop-cons}
 use Rattle.std.proofs.Math.ListN.{drop_of_length-le}
 use Rattle.glob_match.specs.Item.{Item, Star, OneOf, Takes}
@@ -133,6 +133,21 @@ module _ (items : List Item) (text : List ℕ) where
     later : Left items text (suc i) from → Left items text (suc i) (from + 1)
     later l = let p = star_passes (drop (suc i) items) text from l in moved p.0 p.1
 
+  -- nothing matches at some places on end, so it begins after them
+  pub Walks-skip : (n : ℕ) {restart from : ℕ} → Walks items text restart from restart from → 0 < restart → from + n ≤ length text
+      → ((place : ℕ) → from ≤ place → place < from + n → Matches (drop restart items) (drop place text) → ⊥) → Walks items text restart (from + n) restart (from + n)
+  Walks-skip zero {restart} {from} w some within fails = subst (λ k. Walks items text restart k restart k) (omega arith) w
+  Walks-skip (suc n) {restart} {from} w some within fails =
+      let next : Walks items text restart (from + 1) restart (from + 1) = Walks-restart w some (omega arith) (fails from (omega arith) (omega arith)) in
+      let on : Walks items text restart (from + 1 + n) restart (from + 1 + n) = Walks-skip n next some (omega arith) (λ place l r. fails place (omega arith) (omega arith)) in
+      subst (λ k. Walks items text restart k restart k) (omega arith) on
+
+  pub Walks-from : {restart from : ℕ} (to : ℕ) → Walks items text restart from restart from → 0 < restart → from ≤ to → to ≤ length text
+      → ((place : ℕ) → from ≤ place → place < to → Matches (drop restart items) (drop place text) → ⊥) → Walks items text restart to restart to
+  Walks-from {restart} {from} to w some forth within fails =
+      let gap : from + (to - from) ≡ to = omega arith in
+      subst (λ k. Walks items text restart k restart k) gap (Walks-skip (to - from) w some (omega (arith, gap)) (λ place l r. fails place l (omega (arith, gap))))
+
   -- before the first star nothing else is left to try
   pub Walks-fails : {item at restart from : ℕ} → Walks items text item at restart from → restart ≡ 0 → (Matches (drop item items) (drop at text) → ⊥) → Matches items text → ⊥
   Walks-fails {item = item} {at = at} {restart = suc i} {from = from} w none fails h = absurd (omega arith)
@@ -218,3 +233,9 @@ pub ends_some : (items : List Item) (text : List ℕ) (i : ℕ) → length items
 ends_some items text i len other m =
     let s = set_there items text i (omega arith) other in
     (last_taken items i s.0 text m s.1 len).0
+
+-- one place more that nothing matches from
+pub passed_more : (items : List Item) (text : List ℕ) (item from start : ℕ) → ((place : ℕ) → from ≤ place → place < start → Matches (drop item items) (drop place text) → ⊥)
+    → (Matches (drop item items) (drop start text) → ⊥) → (place : ℕ) → from ≤ place → place < start + 1 → Matches (drop item items) (drop place text) → ⊥
+passed_more items text item from start passed fails place l r h =
+    ⊎_elim (λ b. passed place l b h) (λ b. fails (subst (λ k. Matches (drop item items) (drop k text)) (omega (arith, r, b)) h)) (cases_lt place start)

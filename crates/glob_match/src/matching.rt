@@ -1,5 +1,5 @@
 //! Whether items match a text.
-ghost use Rattle.std.specs.Prelude.{◌≡◌, ◌+◌, ◌*◌, ◌≤◌, ◌↔◌, length, IsTrue};
+ghost use Rattle.std.specs.Prelude.{◌≡◌, ℕ, ◌+◌, ◌-◌, ◌*◌, ◌<◌, ◌≤◌, ◌↔◌, length, drop, IsTrue};
 ghost use Rattle.glob_match.specs.Language.{Matches};
 
 use crate::items::Items;
@@ -70,8 +70,39 @@ fn walk<L: Ledger>(items: &Items, text: &[u8], steps: &mut Steps<L>) -> bool
         if restart == 0 {
             return false;
         }
-        from += 1;
+        from = next_start(items, restart, text, from + 1, steps);
         item = restart;
         at = from;
     }
+}
+
+/// The first place from `from` on where the items from `item` on may match: where the item takes the byte, or the end.
+/// Most of the time of a search for a pattern is spent here.
+#[inline(always)]
+fn next_start<L: Ledger>(
+    items: &Items,
+    item: usize,
+    text: &[u8],
+    from: usize,
+    steps: &mut Steps<L>,
+) -> usize
+    requires item { item < length items.now }
+    requires from { from ≤ length text.now }
+    ensures forth { from ≤ result }
+    ensures within { result ≤ length text.now }
+    ensures passed { (place : ℕ) → from ≤ place → place < result → Matches (drop item items.now) (drop place text.now) → ⊥ }
+    ensures rising { steps.old ≤ steps.new }
+    ensures bound { steps.new ≤ steps.old + (result - from) + 1 }
+{
+    if items.is_star(item) {
+        return from;
+    }
+    let mut start = from;
+    while start < text.len() {
+        if items.takes(item, text[start], steps) {
+            return start;
+        }
+        start += 1;
+    }
+    start
 }

@@ -1,8 +1,8 @@
 use Rattle.std.proofs.Common.{◌≤◌, ◌<◌, ◌+◌, ◌*◌, length, drop, refl, arith}
 use Rattle.std.proofs.lemmas.Bool.{false≢true}
 use Rattle.glob_match.specs.Language.{Matches}
-use Rattle.glob_match.proofs.Walk.{Walks-found, Walks-star, Walks-taken, Walks-restart, Walks-fails, Walks-ended, fails_past, fails_untaken, matches_last_star}
-use Rattle.glob_match.proofs.Cost.{spent-star, spent-restart, spent-restart_step}
+use Rattle.glob_match.proofs.Walk.{Walks-found, Walks-star, Walks-taken, Walks-restart, Walks-from, Walks-fails, Walks-ended, fails_past, fails_untaken, matches_last_star}
+use Rattle.glob_match.proofs.Cost.{spent-star, spent-restart_more, spent-restart_step_more, spent-on, spent}
 use Rattle.glob_match.proofs.matching.walk.Goals as goal
 use Rattle.glob_match.proofs.matching.walk.Goals.{then-item-len+else-at-text, else-item-len+else-is_star+else-at-text-2+else-takes}
 
@@ -14,6 +14,7 @@ returns-then-item-len-2-clause-value g c = (
 
 pub walk-preserved-then-is_star : goal.walk-preserved-then-is_star
 walk-preserved-then-is_star g c = record {
+  inside = omega arith;
   walks = Walks-star c.args.items.now c.args.text.now c.walk.invariant.walks (c.if-is_star.ensures.0 refl) (omega arith);
   rising = c.walk.invariant.rising;
   cost = omega (arith, spent-star c.args.steps.now (length c.args.items.now) c.walk.item c.walk.at c.walk.from (omega (arith, c.walk.invariant.walks.level, c.walk.invariant.walks.behind)));
@@ -27,6 +28,7 @@ returns-then-at-text-2-clause-value g c = (
 
 pub walk-preserved-then-takes : goal.walk-preserved-then-takes
 walk-preserved-then-takes g c = record {
+  inside = c.walk.invariant.inside;
   walks = Walks-taken c.args.items.now c.args.text.now c.walk.invariant.walks (omega arith) (λ e. false≢true (c.if-is_star.ensures.1 e)) (omega arith) c.if-takes.ensures.value;
   rising = omega arith;
   cost = omega arith;
@@ -44,23 +46,25 @@ returns-then-restart-eq0-clause-value g c =
 pub walk-preserved : goal.walk-preserved
 walk-preserved g c =
     let w0 = c.walk.invariant.walks in
-    let facts : (Matches (drop c.walk.item c.args.items.now) (drop c.walk.at c.args.text.now) → ⊥) × (c.walk.at < length c.args.text.now) × (c.walk.steps ≤ c.if-item-len.steps) × (c.if-item-len.steps ≤ c.args.steps.now + (c.walk.from + 1) * (length c.args.items.now + 1) + c.walk.restart) =
+    let facts : (Matches (drop c.walk.item c.args.items.now) (drop c.walk.at c.args.text.now) → ⊥) × (c.walk.at < length c.args.text.now) × (c.walk.steps ≤ c.if-item-len.steps) × (c.if-item-len.steps + 1 ≤ spent c.args.steps.now (length c.args.items.now) c.walk.restart (c.walk.from + 1)) =
     elim c.if-item-len.branch [
       | then-item-len+else-at-text w ↦ (
         fails_past c.args.items.now c.args.text.now c.walk.item c.walk.at (omega arith) (omega arith),
         omega arith,
         omega arith,
-        omega (arith, spent-restart c.args.steps.now (length c.args.items.now) c.walk.item c.walk.restart c.walk.from w0.item_in),
+        omega (arith, spent-restart_more c.args.steps.now (length c.args.items.now) c.walk.item c.walk.restart c.walk.from w0.item_in (omega arith)),
       )
       | else-item-len+else-is_star+else-at-text-2+else-takes w ↦ (
         fails_untaken c.args.items.now c.args.text.now c.walk.item c.walk.at (omega arith) (λ e. false≢true (w.if-is_star.ensures.1 e)) w.if-takes.ensures.value,
         omega arith,
         omega arith,
-        omega (arith, spent-restart_step c.args.steps.now (length c.args.items.now) c.walk.item c.walk.restart c.walk.from (omega arith)),
+        omega (arith, spent-restart_step_more c.args.steps.now (length c.args.items.now) c.walk.item c.walk.restart c.walk.from (omega arith) (omega arith)),
       )
     ] in
+    let next = Walks-restart c.args.items.now c.args.text.now w0 (omega arith) facts.1 facts.0 in
     record {
-      walks = Walks-restart c.args.items.now c.args.text.now w0 (omega arith) facts.1 facts.0;
-      rising = omega arith;
-      cost = facts.3;
+      walks = Walks-from c.args.items.now c.args.text.now c.next_start-from.result next (omega arith) c.next_start-from.ensures.forth c.next_start-from.ensures.within c.next_start-from.ensures.passed;
+      inside = c.walk.invariant.inside;
+      rising = omega (arith, facts.2, c.walk.invariant.rising, c.next_start-from.ensures.rising);
+      cost = spent-on c.args.steps.now (length c.args.items.now) c.walk.restart (c.walk.from + 1) c.next_start-from.result _ _ c.next_start-from.ensures.forth facts.3 c.next_start-from.ensures.bound;
     }
