@@ -1,19 +1,17 @@
 -- Look-ups and edits of directories in a list.
-use Rattle.std.proofs.Common.{◌≡◌, ℕ, zero, suc, ◌+◌, ◌<◌, ◌≤◌, drop, Bool, true, false, List, [], ◌∷◌, length, get_or, slice_get, refl, sym, ◌∙◌, ap, subst, arith, Option, Some, None, is_some, IsSomeAnd, MatchOption, Result, Ok, Err, IfOk, IfErr, nat_cmp}
+use Rattle.std.proofs.Common.{◌≡◌, ℕ, zero, suc, ◌+◌, ◌<◌, ◌≤◌, drop, true, false, List, [], ◌∷◌, length, get_or, slice_get, refl, sym, ◌∙◌, ap, subst, arith, Option, Some, None, is_some, IsSomeAnd, nat_cmp}
 use Rattle.std.proofs.Math.ListN.{set}
 use Rattle.std.specs.Cmp.Lexicographic.{slice_cmp}
 use Rattle.std.specs.FinMap as fin
 use Rattle.std.specs.List.{insert}
 use Rattle.std.specs.Option.{option_map, option_map_or}
-use Rattle.std.specs.Result.{result_ok}
 use Rattle.path_order.specs.declared.kind.Kind.{Kind}
 use Rattle.path_order.specs.NameList.{Listed}
 use Rattle.loc_outside.specs.declared.dir_map.TreeDir.{TreeDir}
 use Rattle.loc_outside.specs.declared.keyed.Keyed.{Keyed}
-use Rattle.loc_outside.specs.declared.tree.Times.{Times}
 use Rattle.loc_outside.specs.DirMap.{dir_of, dirs_of, dir_at, rest_of}
-use Rattle.loc_outside.specs.Edits.{names_at, with_dir, changed_at}
-use Rattle.loc_outside.specs.Keyed.{pairs_by, map_by, KeysRise, IsAt, IsGap}
+use Rattle.loc_outside.specs.Edits.{with_dir, changed_at}
+use Rattle.loc_outside.specs.Keyed.{pairs_by, KeysRise, IsAt, IsGap}
 use Rattle.loc_outside.specs.Trees.{Names, Dir, Dirs}
 use Rattle.loc_outside.proofs.KeyedLemmas.{gap_apart, find_at, find_apart, put_at, put_gap}
 use Rattle.loc_outside.proofs.KeyedMaps.{entries_are, get_is, get_pair, put_rises, map_put}

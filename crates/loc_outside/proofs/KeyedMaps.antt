@@ -1,5 +1,5 @@
 -- The maps of values under keys that rise.
-use Rattle.std.proofs.Common.{◌≡◌, ℕ, zero, suc, ◌+◌, ◌<◌, ◌≤◌, Bool, true, false, not, cond, T, List, [], ◌∷◌, ◌++◌, take, length, get_or, slice_get, refl, sym, ◌∙◌, ap, subst, arith, Option, Some, None}
+use Rattle.std.proofs.Common.{◌≡◌, ℕ, zero, suc, ◌+◌, ◌<◌, ◌≤◌, Bool, true, false, not, cond, T, List, [], ◌∷◌, ◌++◌, take, length, get_or, slice_get, refl, sym, ◌∙◌, ap, subst, arith, Some, None}
 use Rattle.std.proofs.lemmas.Cmp.{nat_list_cmp_total, eq_by_cmp_equiv, alike_right}
 use Rattle.std.proofs.lemmas.List.{length-map, map-append, take_more, take_all}
 use Rattle.std.specs.Cmp.Lexicographic.{slice_cmp}
@@ -8,7 +8,7 @@ use Rattle.std.specs.FinMap.Entries.{where_key, is_sorted-put, is_sorted-where_k
 use Rattle.std.specs.Ordering.{eq_by_cmp, is_eq, nat_cmp}
 use Rattle.loc_outside.specs.declared.keyed.Keyed.{Keyed}
 use Rattle.loc_outside.specs.Keyed.{pairs_by, map_by, KeysRise}
-use Rattle.loc_outside.proofs.KeyedLemmas.{by_bytes, rises_by, keys_rise}
+use Rattle.loc_outside.proofs.KeyedLemmas.{rises_by, keys_rise}
 
 turned : {A : Type 0} (b : Bool) (x y : A) → cond (not b) x y ≡ cond b y x
 turned true x y = refl

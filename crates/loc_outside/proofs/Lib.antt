@@ -1,5 +1,6 @@
 pub mod DirLemmas
 mod FittingNames
+pub mod GatherLemmas
 pub mod KeyedLemmas
 pub mod KeyedMaps
 pub mod KnownSteps

@@ -19,6 +19,10 @@ begun name held = record { stored = held.stored; name = Some name; pending = [] 
 abbrev pub grown : List ℕ → Held → Held
 grown bytes held = record { stored = held.stored; name = held.name; pending = held.pending ++ bytes }
 
+-- with no byte pending
+abbrev pub emptied : Held → Held
+emptied held = record { stored = held.stored; name = held.name; pending = [] }
+
 -- the files after these bytes are stored under the name, if there is one
 abbrev pub stored_under : Option (List ℕ) → Files → List ℕ → Files
 stored_under name files bytes = option_map_or (λ n. insert files n bytes) name files

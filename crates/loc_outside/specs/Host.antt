@@ -12,3 +12,8 @@ pub record TreeCounts : Type 0 where
   pub openings : ℕ
   pub stats : ℕ
   pub faults : ℕ
+
+-- how often a gate was asked, and how many calls have failed
+pub record GateCounts : Type 0 where
+  pub asks : ℕ
+  pub faults : ℕ

@@ -3,6 +3,7 @@ pub mod Files
 pub mod Held
 pub mod OutputLaws
 pub mod Trees
+pub mod Gates
 pub mod Outside
 pub mod Stored
 pub mod Memory

@@ -1,10 +1,11 @@
 -- What contracts see of the forms in memory.
-use Rattle.std.specs.Prelude.{ℕ, ◌+◌, Bool, false, ◌&&◌, ◌||◌, ◌==◌, nat_lt, nat_le, List, [], length, min, None}
+use Rattle.std.specs.Prelude.{ℕ, ◌+◌, Bool, false, not, ◌&&◌, ◌||◌, ◌==◌, nat_lt, nat_le, List, [], map, length, bytes_eq, min, None, Vec}
 use Rattle.std.specs.List.{list_any}
 use Rattle.loc_outside.specs.Causes.{last_count}
 use Rattle.std.specs.FinMap.{empty}
 use Rattle.path_order.specs.NameList.{Listed}
 use Rattle.loc_outside.specs.Files.{Files}
+use Rattle.loc_outside.specs.Gates.{Tests}
 use Rattle.loc_outside.specs.Held.{Held}
 use Rattle.loc_outside.specs.Trees.{Dirs}
 
@@ -85,3 +86,30 @@ with_dirs dirs tree = record { dirs = dirs; rest = []; listing = false; openings
 -- one more look-up, of which the count stands still at its last value
 abbrev pub looked_up : TreeState → TreeState
 looked_up tree = record tree { stats = min (tree.stats + 1) last_count }
+
+-- the directories that are hidden, the paths that are lost, how often it was asked, and the failures
+pub record GateState : Type 0 where
+  pub hidden : List (List ℕ)
+  pub lost : List (List ℕ)
+  pub asks : ℕ
+  pub failures : Failures
+
+-- nothing is hidden or lost, and it was not asked
+abbrev pub fresh_gate : GateState
+fresh_gate = record { hidden = []; lost = []; asks = 0; failures = no_failures }
+
+-- the bytes of each path
+abbrev pub paths_of : {A : Type 0} → List (Vec ℕ A) → List (List ℕ)
+paths_of paths = map (λ path. path.items) paths
+
+-- whether the path is one of these
+abbrev pub is_among : List (List ℕ) → List ℕ → Bool
+is_among paths path = list_any (λ known. bytes_eq path known) paths
+
+-- each directory that is not hidden is shown, and each path that is not lost exists, whether links are followed or not
+abbrev pub tests_of : GateState → Tests
+tests_of gate = record { shows = λ dir. not (is_among gate.hidden dir); exists = λ follow path. not (is_among gate.lost path) }
+
+-- one more ask, of which the count stands still at its last value
+abbrev pub asked : GateState → GateState
+asked gate = record gate { asks = min (gate.asks + 1) last_count }

@@ -1,5 +1,5 @@
 -- How the state of a tree is stored.
-use Rattle.std.specs.Prelude.{ℕ, Bool, true, false, List, refl, ◌≡◌}
+use Rattle.std.specs.Prelude.{ℕ, Bool, true, false, refl, ◌≡◌}
 use Rattle.std.specs.Coded.{Coded, code_by, coded×, coded_ℕ, coded_bool, coded_list}
 use Rattle.std.specs.FinMap as fin
 use Rattle.path_order.specs.declared.kind.Kind.{Kind}

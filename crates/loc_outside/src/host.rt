@@ -1,4 +1,4 @@
-//! The host's files and streams. They tell no content.
+//! The host's files, to be read, and its standard error. They tell no content.
 ghost use Rattle.std.specs.Prelude.{◌≡◌, ◌≤◌, None, ⊤, min};
 ghost use Rattle.std.specs.Io.{ReadsAtMost};
 ghost use Rattle.std.proofs.Common.{refl};
@@ -38,7 +38,7 @@ fn read_some<R: Read>(reader: &mut R, into: &mut [u8]) -> Result<usize, Failed>
 }
 
 /// Writes once, and again where a signal interrupts it, and flushes. To take nothing of a piece that isn't empty is a fault.
-fn write_some<W: Write>(writer: &mut W, piece: &[u8]) -> Result<usize, Failed>
+pub(crate) fn write_some<W: Write>(writer: &mut W, piece: &[u8]) -> Result<usize, Failed>
     ensures { TakesPart result piece.now }
 {
     for _ in 0..MOST_TRIES {
@@ -151,51 +151,6 @@ impl Reader for HostFiles {
     }
 }
 
-/// The host's standard output. Each write goes out at once. A contract sees the count of faults.
-#[derive(Drop)]
-pub struct HostOut {
-    rt: HostRuntime,
-    faults: u64,
-}
-
-impl Model for HostOut {
-    ghost use Rattle.std.specs.Prelude.{ℕ};
-
-    ghost Value = { ℕ };
-
-    ghost view = { λ h. h.faults };
-}
-
-impl HostOut {
-    /// The standard output of this host.
-    pub fn new(rt: HostRuntime) -> HostOut
-        ensures { result ≡ 0 }
-    {
-        HostOut { rt, faults: 0 }
-    }
-}
-
-impl Sink for HostOut {
-    ghost taken = { λ h. None };
-
-    ghost faults = { λ h. min h last_count };
-
-    ghost kept = { λ h k. ⊤ };
-
-    ghost keeps_itself = { λ h. tt };
-
-    ghost keeps_on = { λ h k l first then. tt };
-
-    ghost faults_below = { λ h. stays_below h };
-
-    fn write(&mut self, piece: &[u8]) -> Result<usize, Failed> {
-        let Ok(count) = write_some(&mut self.rt.stdout(), piece) else {
-            return Err(fault(&mut self.faults));
-        };
-        Ok(count)
-    }
-}
-
 /// The host's standard error. Each write goes out at once. A contract sees the count of faults.
 #[derive(Drop)]
 pub struct HostErr {
@@ -264,8 +219,7 @@ mod tests {
     }
 
     #[test]
-    fn writes_to_the_streams(rt: HostRuntime) {
-        assert_eq!(rt; HostOut::new(rt).write(b""), Ok(0));
+    fn writes_to_the_stream(rt: HostRuntime) {
         assert_eq!(rt; HostErr::new(rt).write(b"\n"), Ok(1));
     }
 }

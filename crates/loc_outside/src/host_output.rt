@@ -129,6 +129,8 @@ impl Sink for HostOutput {
 impl Output for HostOutput {
     ghost held = { λ h. None };
 
+    ghost keeps_begun = { λ h k kept. refl };
+
     ghost keeps_held = { λ h k bytes kept grows. refl };
 
     fn begin(&mut self, name: &str) -> Result<(), Failed> {

@@ -18,7 +18,7 @@ const MOST_BYTES: usize = 4094;
 
 /// Whether a fault says that nothing can be reached by the path: it is gone, the way there is refused,
 /// or a mount on the way has lost its file system.
-fn is_out_of_reach(kind: ErrorKind) -> bool {
+pub(crate) fn is_out_of_reach(kind: ErrorKind) -> bool {
     matches!(
         kind,
         ErrorKind::NotFound
@@ -35,7 +35,7 @@ fn is_out_of_reach(kind: ErrorKind) -> bool {
 }
 
 /// The path as a text, where the host can reach a directory by it.
-fn reachable(dir: &[u8]) -> Option<&str> {
+pub(crate) fn reachable(dir: &[u8]) -> Option<&str> {
     if dir.len() > MOST_BYTES {
         return None;
     }
@@ -74,13 +74,13 @@ fn look_up(rt: HostRuntime, dir: &[u8]) -> Result<Option<Times>, Failed> {
 
 /// An open directory. The first entry is read when it is opened, since some file systems refuse a listing only then.
 #[derive(Drop)]
-struct Entries {
+pub(crate) struct Entries {
     first: Option<DirEntry>,
     others: ReadDir,
 }
 
 /// Opens a directory to be listed.
-fn open_entries(rt: HostRuntime, path: &str) -> io::Result<Entries> {
+pub(crate) fn open_entries(rt: HostRuntime, path: &str) -> io::Result<Entries> {
     let mut others = fs::read_dir(&rt, path)?;
     let first = match others.next() {
         Some(Ok(entry)) => Some(entry),

@@ -7,7 +7,7 @@ ghost use Rattle.loc_outside.specs.Causes.{HasCause, stays_below};
 ghost use Rattle.loc_outside.specs.Held.{begun, committed};
 ghost use Rattle.loc_outside.specs.Memory.{empty_output, is_due, called, faulted, fault_count};
 ghost use Rattle.loc_outside.specs.Outside.{TakesPart};
-ghost use Rattle.loc_outside.specs.OutputLaws.{keeps_stored};
+ghost use Rattle.loc_outside.specs.OutputLaws.{keeps_name, keeps_stored};
 
 use crate::failing::Failing;
 use crate::stored::{StoredFile, find_file, put_file};
@@ -122,6 +122,8 @@ impl Sink for MemOutput {
 
 impl Output for MemOutput {
     ghost held = { λ m. Some m.held };
+
+    ghost keeps_begun = { λ m n kept. keeps_name m.held n.held kept.0 kept.1 };
 
     ghost keeps_held = { λ m n bytes kept grows. keeps_stored m.held n.held bytes kept.0 kept.1 grows };
 

@@ -1,13 +1,15 @@
 //! A sink in memory, with room for so many bytes.
-ghost use Rattle.std.specs.Prelude.{◌≡◌, ◌≤◌, ◌-◌, ◌↔◌, ◌∷◌, ◌++◌, [], Some, OnOk, OnErr, IfOk, IsErr, IsTrue, length, min};
+ghost use Rattle.std.specs.Prelude.{◌≡◌, ◌≤◌, ◌-◌, ◌↔◌, ◌∷◌, ◌++◌, [], Some, OnOk, OnErr, IfOk, IsOk, IsErr, IsTrue, length, min};
 ghost use Rattle.std.specs.Io.KnownBytes.{WriteAppends};
 ghost use Rattle.loc_outside.specs.Causes.{HasCause, stays_below};
 ghost use Rattle.loc_outside.specs.Memory.{no_failures, called, faulted, fault_count, refuses};
 ghost use Rattle.loc_outside.specs.Outside.{TakesPart};
-ghost use Rattle.std.proofs.Common.{refl, ◌∙◌};
+ghost use Rattle.std.proofs.lemmas.Option.{none-some};
+ghost use Rattle.std.proofs.Common.{refl, sym, ◌∙◌};
 
 use crate::failing::Failing;
-use crate::{Failed, Sink};
+use crate::gathering::SteadySink;
+use crate::{BufferedSink, Failed, Sink};
 use std::alloc::{AllocError, Global};
 use std::marker::Model;
 
@@ -104,10 +106,47 @@ impl Sink for MemSink {
     }
 }
 
+impl BufferedSink for MemSink {
+    /// Nothing is held back, so this does nothing, and is no call that can be let fail.
+    fn flush(&mut self) -> Result<(), Failed>
+        ensures done { IsOk result }
+        ensures same { self.new ≡ self.old }
+        ensures cause { HasCause (fault_count self.old.failures) (fault_count self.new.failures) result }
+    {
+        Ok(())
+    }
+}
+
+impl SteadySink for MemSink {
+    ghost stays_silent = { λ s t kept silent. absurd (none-some s.taken (sym silent)) };
+}
+
 #[cfg(test)]
 mod tests {
     use super::*;
     use crate::put_all;
+
+    // Puts the pieces into any sink that may hold back, and has it pass them on.
+    fn put_and_flush<S: BufferedSink>(
+        sink: &mut S,
+        first: &[u8],
+        last: &[u8],
+    ) -> Result<(), Failed> {
+        put_all(sink, first)?;
+        put_all(sink, last)?;
+        sink.flush()
+    }
+
+    #[test]
+    fn to_flush_is_no_call_that_fails(rt: HostRuntime) -> Result<(), AllocError> {
+        let mut sink = MemSink::with_room(rt.alloc(), 9)?;
+        sink.fail_at(3)?;
+        assert_eq!(rt; put_and_flush(&mut sink, b"ab", b"c"), Ok(()));
+        assert_eq!(rt; sink.write(b"d"), Err(Failed));
+        assert_eq!(rt; sink.flush(), Ok(()));
+        assert_eq!(rt; (sink.taken(), sink.faults()), (b"abc".as_slice(), 1));
+        Ok(())
+    }
 
     #[test]
     fn pieces_up_to_the_room(rt: HostRuntime) -> Result<(), AllocError> {

@@ -6,7 +6,7 @@ ghost use Rattle.std.specs.Io.KnownBytes.{Appends, ReadConsumes, WriteAppends};
 ghost use Rattle.std.specs.Option.{option_map};
 ghost use Rattle.loc_outside.specs.Causes.{HasCause};
 ghost use Rattle.loc_outside.specs.Files.{Files};
-ghost use Rattle.loc_outside.specs.Held.{Held, begun, grown, committed};
+ghost use Rattle.loc_outside.specs.Held.{Held, begun, grown, committed, emptied};
 ghost use Rattle.loc_outside.specs.Outside.{GivesCount, TakesPart, OpensAs};
 
 use thiserror::Error;
@@ -108,6 +108,15 @@ pub trait Sink {
     ghost faults_below: { (s : Self) → faults s < 2 ^ 64 };
 }
 
+/// A sink that may hold back what it has taken, and passes it on when asked.
+pub trait BufferedSink: Sink {
+    /// Passes on all that was taken. After `Failed`, how much of it went on is not said.
+    fn flush(&mut self) -> Result<(), Failed>
+        ensures taken { Self.taken self.new ≡ Self.taken self.old }
+        ensures cause { HasCause (Self.faults self.old) (Self.faults self.new) result }
+        ensures kept { Self.kept self.old self.new };
+}
+
 /// What takes files, one after another: a name is begun, the bytes that are taken then are pending, and a commit stores them.
 pub trait Output: Sink {
     /// The files that it stores, the name that was begun and not yet committed, and the bytes taken since the last name
@@ -132,6 +141,9 @@ pub trait Output: Sink {
         ensures taken { Self.taken self.new ≡ Self.taken self.old }
         ensures cause { HasCause (Self.faults self.old) (Self.faults self.new) result };
 
-    /// To take bytes changes no stored file and no name, and the pending bytes grow by those that are taken.
+    /// To take bytes changes no stored file and no name.
+    ghost keeps_begun: { (s t : Self) → Self.kept s t → option_map emptied (held t) ≡ option_map emptied (held s) };
+
+    /// The pending bytes grow then by those that are taken.
     ghost keeps_held: { (s t : Self) (bytes : List ℕ) → Self.kept s t → Appends (Self.taken s) (Self.taken t) bytes → held t ≡ option_map (grown bytes) (held s) };
 }

@@ -1,4 +1,4 @@
-use Rattle.std.proofs.Common.{◌≡◌, ◌<◌, ◌≤◌, ◌∙◌, ap, sym, Option, List, ℕ, length, get_or, subst, arith}
+use Rattle.std.proofs.Common.{◌≡◌, ◌<◌, ◌≤◌, ◌∙◌, ap, sym, List, ℕ, length, get_or, subst}
 use Rattle.std.specs.Option.{option_map}
 use Rattle.loc_outside.specs.declared.dir_map.TreeDir.{TreeDir}
 use Rattle.loc_outside.specs.declared.keyed.Keyed.{Keyed}

@@ -1,4 +1,4 @@
-use Rattle.std.proofs.Common.{rules, ◌≡◌, refl, List}
+use Rattle.std.proofs.Common.{rules, ◌≡◌, refl}
 use Rattle.loc_outside.specs.declared.dir_map.TreeDir.{TreeDir}
 use Rattle.loc_outside.specs.declared.keyed.Keyed.{Keyed}
 use Rattle.loc_outside.proofs.DirLemmas.{Seen, edited_rises, put_over, put_in_rises, put_new}

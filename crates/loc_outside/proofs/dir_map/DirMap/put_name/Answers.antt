@@ -1,4 +1,4 @@
-use Rattle.std.proofs.Common.{refl, List}
+use Rattle.std.proofs.Common.{refl}
 use Rattle.loc_outside.specs.declared.dir_map.TreeDir.{TreeDir}
 use Rattle.loc_outside.specs.declared.keyed.Keyed.{Keyed}
 use Rattle.loc_outside.specs.Edits.{with_name}

@@ -1,6 +1,5 @@
-use Rattle.std.proofs.Common.{◌≡◌, ◌<◌, ◌∙◌, ap, sym, subst, length, arith, IsTrue, List, ℕ, slice_get, get_or, Some}
+use Rattle.std.proofs.Common.{◌≡◌, ◌<◌, ◌∙◌, ap, sym, subst, length, arith, IsTrue, List, ℕ, slice_get, Some}
 use Rattle.std.specs.FinMap.{entries}
-use Rattle.path_order.specs.declared.kind.Kind.{Kind}
 use Rattle.loc_outside.specs.Edits.{fits}
 use Rattle.loc_outside.proofs.FittingNames.{fits_at}
 use Rattle.loc_outside.proofs.KeyedMaps.{entries_are, length_of, get_pair}

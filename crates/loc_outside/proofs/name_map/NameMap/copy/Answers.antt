@@ -1,4 +1,4 @@
-use Rattle.std.proofs.Common.{rules, ◌≡◌, refl, ◌∙◌, ap, arith, List, length, ◌≤◌, take}
+use Rattle.std.proofs.Common.{rules, ◌≡◌, refl, ◌∙◌, ap, arith}
 use Rattle.std.specs.FinMap.{from_sorted}
 use Rattle.path_order.specs.declared.kind.Kind.{Kind}
 use Rattle.loc_outside.specs.declared.keyed.Keyed.{Keyed}

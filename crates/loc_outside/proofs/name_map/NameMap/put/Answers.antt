@@ -1,7 +1,6 @@
-use Rattle.std.proofs.Common.{rules, ◌≡◌, ◌∙◌, ap, subst, List, ℕ}
+use Rattle.std.proofs.Common.{rules, ◌≡◌, ◌∙◌, ap, subst, List}
 use Rattle.std.proofs.Math.ListN.{set}
 use Rattle.std.specs.FinMap.{insert as with_entry}
-use Rattle.std.specs.List.{insert}
 use Rattle.path_order.specs.declared.kind.Kind.{Kind}
 use Rattle.loc_outside.specs.declared.keyed.Keyed.{Keyed}
 use Rattle.loc_outside.specs.Keyed.{IsAt, IsGap, pairs_by}

@@ -1,4 +1,4 @@
-use Rattle.std.proofs.Common.{◌≡◌, ◌∙◌, ap, sym, subst, List}
+use Rattle.std.proofs.Common.{◌∙◌, ap, sym, subst, List}
 use Rattle.std.specs.FinMap.{remove as without_entry}
 use Rattle.path_order.specs.declared.kind.Kind.{Kind}
 use Rattle.loc_outside.specs.declared.keyed.Keyed.{Keyed}
