@@ -1,18 +1,17 @@
 -- The order of the pending paths, and what a voucher still has for those to come.
-use Rattle.std.proofs.Common.{◌≡◌, ℕ, zero, suc, ◌<◌, ◌≤◌, Bool, true, false, ◌&&◌, ◌||◌, T, IsTrue, All, List, [], ◌∷◌, ◌++◌, length, filter, get_or, refl, sym, ◌∙◌, ap, subst, arith, ◌⊎◌, inl, inr, Option, Some, None, Contains, IfSome, true≢false, nat_cmp, append-nil}
+use Rattle.std.proofs.Common.{◌≡◌, ℕ, zero, suc, ◌<◌, Bool, true, false, ◌&&◌, ◌||◌, T, IsTrue, All, List, [], ◌∷◌, ◌++◌, length, filter, get_or, refl, sym, ◌∙◌, ap, subst, arith, ◌⊎◌, inl, inr, Option, Some, None, Contains, IfSome, true≢false, nat_cmp, append-nil}
 use Rattle.std.specs.List.{list_any}
 use Rattle.std.specs.Str.{bytes_eq}
 use Rattle.std.specs.Cmp.Lexicographic.{slice_cmp, bytes_decides}
 use Rattle.path_order.specs.declared.kind.Kind.{Kind}
 use Rattle.path_order.specs.NameList.{Listed}
-use Rattle.path_order.specs.NameList as lists
 use Rattle.path_order.specs.Path.{is_root, joined}
 use Rattle.path_order.specs.Stamp.{Moment}
 use Rattle.tree_scan.specs.Admitted.{is_directory, fits_in, paths_in}
 use Rattle.tree_scan.specs.Records.{Record, Vouches, Fitting, Leaves, bears, is_vouched}
 use Rattle.tree_scan.specs.Walks.{AddsChildren, FloorMoves}
 use Rattle.tree_scan.proofs.Lists.{Each, Has, Rises, each_more, each_append, each_map, each_filter, rises_filter, rises_append, rises_map}
-use Rattle.tree_scan.proofs.Order.{Before, IsTail, before_trans}
+use Rattle.tree_scan.proofs.Order.{Before, before_trans}
 use Rattle.tree_scan.proofs.Walk.{IsGood, good}
 use Rattle.tree_scan.proofs.Sorted.{Under, IsChild, Apart, ByName, siblings, rises_sorted, joined_no_root, below_child, before_child}
 
@@ -34,7 +33,7 @@ children_rise path names f =
     (each_filter (λ e. IsGood path e.0) (λ e. is_directory e.1) names (names_good path names f))
     (rises_filter ByName (λ e. is_directory e.1) names (rises_sorted (slice_cmp nat_cmp) names (true_t _ f.rise)))
 
-children : (path : List ℕ) (names : Listed) → Fitting path names → Each (IsChild path) (paths_in path names)
+pub children : (path : List ℕ) (names : Listed) → Fitting path names → Each (IsChild path) (paths_in path names)
 children path names f =
     each_map (IsChild path) (λ e. joined path e.0) (filter (λ e. is_directory e.1) names)
     (each_more _ _ (λ e g. record { name = e.0; good = g; is = refl }) _ (each_filter (λ e. IsGood path e.0) (λ e. is_directory e.1) names (names_good path names f)))
@@ -48,7 +47,7 @@ child_no_root path c h = ap is_root h.is ∙ joined_no_root path h.name h.good.l
 under_child : (path c x : List ℕ) → is_root path ≡ false → IsChild path c → Under c x → Under path x
 under_child path c x low h u = below_child path h.name x low (subst (λ (d : List ℕ). Under d x) h.is u)
 
-after_child : (path c x : List ℕ) → IsChild path c → Under c x → Before path x
+pub after_child : (path c x : List ℕ) → IsChild path c → Under c x → Before path x
 after_child path c x h u = before_child path h.name x h.good (subst (λ (d : List ℕ). Under d x) h.is u)
 
 -- a child of a path is apart from what the path is apart from
@@ -189,6 +188,14 @@ pub vouches_is : (records : List Record) (path : List ℕ) (time : Moment) (devi
 vouches_is records path time device names v =
     let c = v.there in
     has_any (λ r. bytes_eq r.path path && bears r time device) records c.0 v.known c.1 c.2 (both_true (bytes_eq v.known.path path) (bears v.known time device) ((bytes_decides v.known.path path).1 v.at) v.bearing)
+
+-- fewer records vouch for no more
+pub fewer_vouched : (now entry : List Record) (path : List ℕ) (time : Moment) (device : ℕ) → ((r : Record) → Contains now r → Contains entry r) → is_vouched now path time device ≡ true → is_vouched entry path time device ≡ true
+fewer_vouched now entry path time device fewer t =
+    let p : Record → Bool = λ r. bytes_eq r.path path && bears r time device in
+    let x = any_has p now t in
+    let c = fewer x.known x.there in
+    has_any p entry c.0 x.known c.1 c.2 x.pass
 
 -- two lists of records that have the same ones of a path
 pub same_vouched : (now entry : List Record) (path : List ℕ) (time : Moment) (device : ℕ) → ((r : Record) → Contains now r → Contains entry r) → ((r : Record) → Contains entry r → r.path ≡ path → Contains now r)

@@ -1,3 +1,7 @@
+pub mod Follows
+pub mod Past
+pub mod PendingPaths
+pub mod Stops
 pub mod Lists
 pub mod Order
 pub mod Walk

@@ -1,5 +1,5 @@
 -- Lists whose elements each have a property, and lists that rise.
-use Rattle.std.proofs.Common.{◌≡◌, Bool, true, false, ◌&&◌, T, IsTrue, List, [], ◌∷◌, ◌++◌, map, ◌⊎◌, inl, inr, refl, sym, ◌∙◌, ap, subst, flat_map, filter, cond, Option, Some, None}
+use Rattle.std.proofs.Common.{◌≡◌, Bool, true, false, List, [], ◌∷◌, ◌++◌, map, ◌⊎◌, inl, inr, refl, sym, subst, flat_map, filter, cond}
 
 abbrev pub Each : {A : Type 0} → (A → Type 0) → List A → Type 0
 Each P [] = Unit {0}

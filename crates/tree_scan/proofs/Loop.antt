@@ -1,6 +1,7 @@
 -- The loop of the walk: what is done, and what is still to come.
-use Rattle.std.proofs.Common.{◌≡◌, ℕ, ◌≤◌, ◌<◌, ◌+◌, ◌^◌, Bool, true, false, not, cond, ◌&&◌, IsTrue, List, [], ◌∷◌, ◌++◌, length, filter, flat_map, refl, sym, ◌∙◌, ap, subst, arith, append_assoc, append-nil, length-append, suc, Contains, Some, Option, inl, inr, take, if◌then◌else◌, None, IsSomeAnd, slice_get}
+use Rattle.std.proofs.Common.{◌≡◌, ℕ, ◌≤◌, ◌<◌, ◌+◌, ◌^◌, Bool, true, false, not, cond, ◌&&◌, IsTrue, List, [], ◌∷◌, ◌++◌, length, filter, flat_map, refl, sym, ◌∙◌, ap, subst, arith, append_assoc, append-nil, length-append, suc, Contains, Some, Option, inl, inr, take, None, IsSomeAnd, slice_get}
 use Rattle.std.proofs.lemmas.List.Concat.{flat_map-append}
+use Rattle.std.proofs.lemmas.List.Elements.{All-append}
 use Rattle.std.specs.Option.{option_map_or}
 use Rattle.std.specs.FinMap.{get, entries}
 use Rattle.std.specs.Io.KnownBytes.{Appends}
@@ -11,21 +12,21 @@ use Rattle.loc_outside.specs.Outside.{AppendsPart}
 use Rattle.loc_outside.proofs.Parts.{part_first, part_second, part_none}
 use Rattle.loc_outside.specs.Trees.{Dir, Dirs}
 use Rattle.tree_scan.specs.Admitted.{admitted, paths_in}
-use Rattle.tree_scan.specs.Blocks.{block, entries_of, header, lines, time_of, scan_text, echo_text}
+use Rattle.tree_scan.specs.Blocks.{block, entries_of, header, lines, pieces, time_of, scan_pieces, scan_text, echo_text}
 use Rattle.tree_scan.specs.Plan.{Plan}
 use Rattle.tree_scan.specs.Reach.{is_open, is_tried, tried, reached}
-use Rattle.tree_scan.specs.Records.{Record, Honest, Relied, Vouches, bears, is_vouched, unvouched}
+use Rattle.tree_scan.specs.Records.{Record, Honest, Relied, bears, is_vouched, unvouched}
 use Rattle.tree_scan.specs.Steps.{here, next, child_paths, weight, subtree}
-use Rattle.tree_scan.specs.Walks.{Standing, Passes, Breaks, NamesMore, StopsAtWide, Whole, WroteOf, opens}
+use Rattle.tree_scan.specs.Walks.{Standing, Passes, Breaks, AddsChildren, LinesFollow, NamesMore, Narrow, StopsAtWide, Whole, WroteOf, opens}
 use Rattle.tree_scan.proofs.Asking.{Keeps, under_itself, same_vouched}
-use Rattle.tree_scan.proofs.Lists.{Each, Has, has_left, has_right}
+use Rattle.tree_scan.proofs.Follows.{Pieces, follows_none, follows_part, follows_after, follows_more, written_blocks, echoed_blocks}
+use Rattle.tree_scan.proofs.Lists.{Each, Has, Rises, each_more, each_append, has_left, has_right}
+pub use Rattle.tree_scan.proofs.Past.{Found}
+use Rattle.tree_scan.proofs.Past.{Past, past_more}
 use Rattle.tree_scan.proofs.Same.{walk_is_led}
 use Rattle.tree_scan.proofs.Told.{here_tried, filter_append, filter_short, one}
-use Rattle.tree_scan.proofs.Sorted.{Under}
+use Rattle.tree_scan.proofs.Sorted.{Apart, Under}
 use Rattle.tree_scan.proofs.Walk.{subtree_is}
-
-abbrev pub Found : Type 0
-Found = List (List ℕ × Dir)
 
 -- the reached and the tried directories, split into those done and those that the pending paths will give
 pub record Split (dirs : Dirs) (pruned : List ℕ → Bool) (root : List ℕ) (pending : List (List ℕ)) (Written : Found → Found → Type 0) : Type 0 where
@@ -79,13 +80,13 @@ split_end dirs pruned root pending Written none s =
     let all : s.went ≡ tried dirs pruned root = sym (append-nil s.went) ∙ ap (λ (l : List (List ℕ)). s.went ++ flat_map (subtree dirs pruned (is_tried pruned)) l) (sym none) ∙ s.all in
     subst (λ (d : Found). Written d (tried dirs pruned root)) whole (subst (λ (w : Found). Written s.done w) all s.written)
 
-contains_has : (x : List ℕ × Dir) (xs : Found) → Has x xs → Contains xs x
+pub contains_has : (x : List ℕ × Dir) (xs : Found) → Has x xs → Contains xs x
 contains_has x [] h = absurd h
 contains_has x (y ∷ ys) (inl e) = (0, omega arith, sym e)
 contains_has x (y ∷ ys) (inr h) = let r = contains_has x ys h in (suc r.0, omega (arith, r.1), r.2)
 
 -- how the tried ones go on at the path in hand
-all_here : (dirs : Dirs) (pruned : List ℕ → Bool) (last : List ℕ → Dir → Bool) (path : List ℕ) (rest old : List (List ℕ)) (went all : Found) → length path ≤ 4096 → old ≡ path ∷ rest → went ++ flat_map (subtree dirs pruned last) old ≡ all
+pub all_here : (dirs : Dirs) (pruned : List ℕ → Bool) (last : List ℕ → Dir → Bool) (path : List ℕ) (rest old : List (List ℕ)) (went all : Found) → length path ≤ 4096 → old ≡ path ∷ rest → went ++ flat_map (subtree dirs pruned last) old ≡ all
     → (went ++ here dirs last path) ++ (flat_map (subtree dirs pruned last) (next dirs pruned path) ++ flat_map (subtree dirs pruned last) rest) ≡ all
 all_here dirs pruned last path rest old went all fits is_old whole =
     let F = subtree dirs pruned last in
@@ -179,7 +180,7 @@ here_few dirs last path = by (get dirs path)
     by None = omega arith
     by (Some dir) = inner dir (last path dir)
 
--- what stood at the start, beside what the standing shows: the look-ups with that of the root, the openings, the records, and which paths are priced
+-- what stood at the start, beside what the standing shows: the look-ups with that of the root, the openings, the records, which paths are priced, and how many names a listed directory may have
 pub record Start : Type 0 where
   pub taken : Option (List ℕ)
   pub echoed : Option (List ℕ)
@@ -187,6 +188,7 @@ pub record Start : Type 0 where
   pub openings : ℕ
   pub records : List Record
   pub priced : List ℕ → Bool
+  pub names : ℕ
 
 pub record Now : Type 0 where
   pub standing : Standing
@@ -202,6 +204,9 @@ pub record Stands (plan : Plan) (now : Moment) (start : Start) (at : Now) (done 
   pub entries : at.standing.progress.counts.entries ≡ length (entries_of done)
   pub tried : at.standing.progress.tried ≡ length went
   pub shown : done ≡ filter (λ e. not e.1.hidden) went
+  pub past : Past at.standing.progress.pending went
+  pub named : Each (λ p. Has p (child_paths done)) at.standing.progress.pending
+  pub narrow : Narrow start.names (unvouched start.records plan done)
   pub asked : at.stats + weight plan.pruned start.priced at.standing.progress.pending ≤ start.stats + weight plan.pruned start.priced (child_paths done)
   pub opened : IsTrue at.whole → at.openings ≤ start.openings + length (unvouched start.records plan went)
   pub exact : IsTrue at.whole → start.openings ≤ 2 ^ 63 → at.openings ≡ start.openings + length (unvouched start.records plan went)
@@ -210,11 +215,13 @@ more : (u v w : Option (List ℕ)) (f : List ℕ × Dir → List ℕ) (front : L
 more u v w f front done at first then_ =
     subst (λ (l : List ℕ). Appends u w l) (append_assoc front (flat_map f done) (flat_map f at) ∙ ap (λ (l : List ℕ). front ++ l) (sym (flat_map-append f done at))) (Appends-trans u v w _ _ first then_)
 
--- what one step does to the numbers
+-- what one step does to the numbers and to what is pending
 pub record Counts (dirs : Dirs) (plan : Plan) (start : Start) (path : List ℕ) (old new : Now) : Type 0 where
   pub mark : IsTrue new.whole → IsTrue old.whole
   pub opened : IsTrue new.whole → new.openings ≡ raised old.openings (opens start.records dirs plan path)
   pub few : new.standing.progress.tried ≤ 4294967295
+  pub adds : AddsChildren path old.standing.progress.pending new.standing.progress.pending
+  pub narrow : Narrow start.names (unvouched start.records plan (here dirs (is_open plan.pruned) path))
 
 raised_to : (a b n : ℕ) → a + n < 2 ^ 64 → b ≡ raised a n → b ≡ a + n
 raised_to a b n small e = omega (arith, small, e)
@@ -225,13 +232,34 @@ raised_most a b n e = omega (arith, e)
 sum_small : (a n b m k t r : ℕ) → a ≡ b + m → b ≤ 2 ^ 63 → k ≡ m + n → k ≤ t → r ≡ t → r ≤ 4294967295 → a + n < 2 ^ 64
 sum_small a n b m k t r e half sizes few same most = omega (arith, e, half, sizes, few, same, most)
 
+each_self : {A : Type 0} (xs : List A) → Each (λ x. Has x xs) xs
+each_self [] = tt
+each_self (x ∷ xs) = (inl refl, each_more _ _ (λ y h. inr h) xs (each_self xs))
+
+-- all that is pending is named by what was reached
+named_step : (dirs : Dirs) (pruned : List ℕ → Bool) (path : List ℕ) (rest new : List (List ℕ)) (done : Found) → new ≡ next dirs pruned path ++ rest → Each (λ p. Has p (child_paths done)) rest
+    → Each (λ p. Has p (child_paths (done ++ here dirs (is_open pruned) path))) new
+named_step dirs pruned path rest new done is_new named =
+    let both : child_paths (done ++ here dirs (is_open pruned) path) ≡ child_paths done ++ next dirs pruned path =
+    flat_map-append (λ (e : List ℕ × Dir). paths_in e.0 (admitted e.0 e.1)) done (here dirs (is_open pruned) path) ∙ ap (λ (l : List (List ℕ)). child_paths done ++ l) (child_here dirs pruned path) in
+    subst (λ (l : List (List ℕ)). Each (λ p. Has p (child_paths (done ++ here dirs (is_open pruned) path))) l) (sym is_new)
+    (subst (λ (l : List (List ℕ)). Each (λ p. Has p l) (next dirs pruned path ++ rest)) (sym both)
+    (each_append (λ (p : List ℕ). Has p (child_paths done ++ next dirs pruned path)) (next dirs pruned path) rest
+    (each_more _ _ (λ p h. has_right p (child_paths done) (next dirs pruned path) h) _ (each_self (next dirs pruned path)))
+    (each_more _ _ (λ p h. has_left p (child_paths done) (next dirs pruned path) h) rest named)))
+
+narrow_append : (limit : ℕ) (records : List Record) (plan : Plan) (xs ys : Found) → Narrow limit (unvouched records plan xs) → Narrow limit (unvouched records plan ys) → Narrow limit (unvouched records plan (xs ++ ys))
+narrow_append limit records plan xs ys h k =
+    subst (Narrow limit) (sym (filter_append (λ (e : List ℕ × Dir). not (is_vouched records e.0 (time_of e.1.times) (plan.device_of e.0))) xs ys))
+    (All-append (λ (e : List ℕ × Dir). length (entries e.1.names) ≤ limit) (unvouched records plan xs) (unvouched records plan ys) h k)
+
 -- One step. Its old standing is that of the walk without the path in hand.
 pub stands_step : (dirs : Dirs) (plan : Plan) (now : Moment) (start : Start) (path : List ℕ) (rest : List (List ℕ)) (old new : Now) (done went : Found)
-    → old.standing.progress.pending ≡ rest → Passes dirs plan now path old.standing new.standing → Counts dirs plan start path old new
+    → old.standing.progress.pending ≡ rest → Rises Apart (path ∷ rest) → Passes dirs plan now path old.standing new.standing → Counts dirs plan start path old new
     → Stands plan now start (record { standing = record { taken = old.standing.taken; echoed = old.standing.echoed; progress = record { pending = path ∷ rest; tried = old.standing.progress.tried; counts = old.standing.progress.counts } }; stats = old.stats; openings = old.openings; whole = old.whole }) done went
     → new.stats ≤ old.stats + weight plan.pruned start.priced (path ∷ [])
     → Stands plan now start new (done ++ here dirs (is_open plan.pruned) path) (went ++ here dirs (is_tried plan.pruned) path)
-stands_step dirs plan now start path rest old new done went is_old p c s looks =
+stands_step dirs plan now start path rest old new done went is_old rise p c s looks =
     let open_here = here dirs (is_open plan.pruned) path in
     let tried_here = here dirs (is_tried plan.pruned) path in
     let sizes : length (unvouched start.records plan (went ++ tried_here)) ≡ length (unvouched start.records plan went) + opens start.records dirs plan path = unvouched_append start.records plan went tried_here in
@@ -248,6 +276,9 @@ stands_step dirs plan now start path rest old new done went is_old p c s looks =
       blocks = p.blocks ∙ ap (λ (n : ℕ). n + length open_here) s.blocks ∙ sym (length-append done open_here);
       entries = p.entries ∙ ap (λ (n : ℕ). n + length (entries_of open_here)) s.entries ∙ sym (ap length (flat_map-append (λ (e : List ℕ × Dir). admitted e.0 e.1) done open_here) ∙ length-append (entries_of done) (entries_of open_here));
       tried = tried_all;
+      past = past_more dirs (is_tried plan.pruned) path rest new.standing.progress.pending went (subst (λ (l : List (List ℕ)). AddsChildren path l new.standing.progress.pending) is_old c.adds) rise s.past;
+      named = named_step dirs plan.pruned path rest new.standing.progress.pending done (p.pending ∙ ap (λ (l : List (List ℕ)). next dirs plan.pruned path ++ l) is_old) s.named.1;
+      narrow = narrow_append start.names start.records plan done open_here s.narrow c.narrow;
       shown = (λ i. s.shown i ++ here_shown dirs plan.pruned path i) ∙ sym (filter_append (λ (e : List ℕ × Dir). not e.1.hidden) went tried_here);
       asked = omega (arith, s.asked, looks, pending, before, children);
       opened = λ w. let m = raised_most old.openings new.openings (opens start.records dirs plan path) (c.opened w) in omega (arith, m, s.opened (c.mark w), sizes);
@@ -285,6 +316,7 @@ part_of u v w f front done at rest all is first piece =
 pub record Parts (dirs : Dirs) (plan : Plan) (now : Moment) (taken taken' echoed echoed' : Option (List ℕ)) : Type 0 where
   pub written : AppendsPart taken taken' (scan_text dirs plan now)
   pub lined : AppendsPart echoed echoed' (echo_text dirs plan)
+  pub follows : LinesFollow (scan_pieces dirs plan now) taken taken' echoed echoed'
 
 -- the blocks of the directories that are done were written after the header, and their lines echoed
 pub record Wrote (plan : Plan) (now : Moment) (u v e f : Option (List ℕ)) (done : Found) : Type 0 where
@@ -297,6 +329,18 @@ split_map dirs pruned root pending Written Written' f s = record { done = s.done
 pub wrote_of : (plan : Plan) (now : Moment) (start : Start) (at : Now) (done went : Found) → Stands plan now start at done went → Wrote plan now start.taken at.standing.taken start.echoed at.standing.echoed done
 wrote_of plan now start at done went s = record { taken = s.taken; echoed = s.echoed }
 
+-- the pieces of whole blocks, and then those of the one in hand
+follows_of : (dirs : Dirs) (plan : Plan) (now : Moment) (u v w e f g : Option (List ℕ)) (done at rest : Found) → (done ++ at) ++ rest ≡ reached dirs plan.pruned plan.root → Wrote plan now u v e f done → LinesFollow (flat_map (pieces plan now) at) v w f g
+    → LinesFollow (scan_pieces dirs plan now) u w e g
+follows_of dirs plan now u v w e f g done at rest is wrote h =
+    let P = pieces plan now in
+    let all : ((header plan, []) ∷ flat_map P done) ++ (flat_map P at ++ flat_map P rest) ≡ scan_pieces dirs plan now =
+    ap (λ (l : Pieces). (header plan, []) ∷ l) (sym (append_assoc (flat_map P done) (flat_map P at) (flat_map P rest)) ∙ ap (λ (l : Pieces). l ++ flat_map P rest) (sym (flat_map-append P done at)) ∙ sym (flat_map-append P (done ++ at) rest) ∙ ap (flat_map P) is) in
+    subst (λ (l : Pieces). LinesFollow l u w e g) all
+    (follows_after ((header plan, []) ∷ flat_map P done) (flat_map P at ++ flat_map P rest) u v w e f g
+    (subst (λ (l : List ℕ). Appends u v (header plan ++ l)) (sym (written_blocks plan now done)) wrote.taken) (subst (λ (l : List ℕ). Appends e f l) (sym (echoed_blocks plan now done)) wrote.echoed)
+    (follows_more (flat_map P at) (flat_map P rest) v w f g h))
+
 pub breaks_off : (dirs : Dirs) (plan : Plan) (now : Moment) (u v v' e f f' : Option (List ℕ)) (path : List ℕ) (rest pending : List (List ℕ)) → length path ≤ 4096 → pending ≡ path ∷ rest
     → Split dirs plan.pruned plan.root pending (λ done went. Wrote plan now u v e f done) → Breaks dirs plan now path v v' f f' → Parts dirs plan now u v' e f'
 breaks_off dirs plan now u v v' e f f' path rest pending fits is_old s b =
@@ -304,6 +348,7 @@ breaks_off dirs plan now u v v' e f f' path rest pending fits is_old s b =
     record {
       written = part_of u v v' (block plan now) (header plan) s.done (here dirs (is_open plan.pruned) path) _ (reached dirs plan.pruned plan.root) all s.written.taken b.written;
       lined = part_of e f f' (lines plan) [] s.done (here dirs (is_open plan.pruned) path) _ (reached dirs plan.pruned plan.root) all s.written.echoed b.lined;
+      follows = follows_of dirs plan now u v v' e f f' s.done (here dirs (is_open plan.pruned) path) _ all s.written b.follows;
     }
 
 take_whole : {A : Type 0} (xs ys : List A) → take (length xs) (xs ++ ys) ≡ xs
@@ -328,11 +373,11 @@ pub whole_none : (dirs : Dirs) (plan : Plan) (now : Moment) (u e : Option (List 
 whole_none dirs plan now u e = inl (Appends-nil u, Appends-nil e)
 
 pub parts_none : (dirs : Dirs) (plan : Plan) (now : Moment) (u e : Option (List ℕ)) → Parts dirs plan now u u e e
-parts_none dirs plan now u e = record { written = part_none u _; lined = part_none e _ }
+parts_none dirs plan now u e = record { written = part_none u _; lined = part_none e _; follows = follows_none _ u e }
 
 -- a first part of the header
 pub parts_header : (dirs : Dirs) (plan : Plan) (now : Moment) (u v e : Option (List ℕ)) → AppendsPart u v (header plan) → Parts dirs plan now u v e e
-parts_header dirs plan now u v e h = record { written = part_first u v (header plan) (flat_map (block plan now) (reached dirs plan.pruned plan.root)) h; lined = part_none e _ }
+parts_header dirs plan now u v e h = record { written = part_first u v (header plan) (flat_map (block plan now) (reached dirs plan.pruned plan.root)) h; lined = part_none e _; follows = follows_part _ u v e (header plan) h }
 
 -- the header, before the first directory
 pub wrote_header : (plan : Plan) (now : Moment) (u v e : Option (List ℕ)) → Appends u v (header plan) → Wrote plan now u v e e []
@@ -365,6 +410,9 @@ root_stands dirs plan now start path old new head quiet none tried_0 blocks_0 en
       blocks = omega (arith, p.blocks, blocks_0);
       entries = omega (arith, p.entries, entries_0);
       tried = tried_is;
+      past = past_more dirs (is_tried plan.pruned) path [] new.standing.progress.pending [] (subst (λ (l : List (List ℕ)). AddsChildren path l new.standing.progress.pending) none c.adds) (tt, tt) tt;
+      named = named_step dirs plan.pruned path [] new.standing.progress.pending [] (p.pending ∙ ap (λ (l : List (List ℕ)). next dirs plan.pruned path ++ l) none) tt;
+      narrow = c.narrow;
       shown = here_shown dirs plan.pruned path;
       asked = omega (arith, looks, pending);
       opened = λ w. let m = raised_most old.openings new.openings (opens start.records dirs plan path) (c.opened w) in omega (arith, m, opened_0);

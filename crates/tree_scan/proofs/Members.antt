@@ -1,26 +1,20 @@
 -- The walk's directories are those that names lead to.
-use Rattle.std.proofs.Common.{◌≡◌, ◌≢◌, ℕ, zero, suc, ◌+◌, ◌<◌, ◌≤◌, Bool, true, false, not, cond, ◌&&◌, ◌||◌, ◌==◌, List, [], ◌∷◌, ◌++◌, map, length, filter, flat_map, refl, sym, ◌∙◌, ap, subst, arith, Option, Some, None, T, true≢false, append_assoc, length-append, Less, Equal, Greater, nat_cmp, is_eq, Ordering, if◌then◌else◌, ◌⊎◌, inl, inr, ⊎_elim}
+use Rattle.std.proofs.Common.{◌≡◌, ℕ, zero, suc, ◌<◌, ◌≤◌, Bool, true, false, cond, ◌&&◌, ◌||◌, List, [], ◌∷◌, map, length, filter, refl, sym, ◌∙◌, ap, subst, Option, Some, None, true≢false, nat_cmp, is_eq, inl, inr}
 use Rattle.std.specs.Option.{option_map_or}
 use Rattle.std.specs.List.{list_any}
-use Rattle.std.specs.Str.{bytes_eq}
 use Rattle.std.specs.Ordering.{eq_by_cmp}
 use Rattle.std.specs.Cmp.Lexicographic.{slice_cmp}
-use Rattle.std.specs.FinMap.{FinMap, get, entries, entries_sorted, is_sorted, find, nat_cmp-IsAntisymmetric, slice_cmp-IsAntisymmetric}
+use Rattle.std.specs.FinMap.{get, nat_cmp-IsAntisymmetric, slice_cmp-IsAntisymmetric}
 use Rattle.std.specs.Cmp.{Equal-is}
 use Rattle.std.proofs.lemmas.Cmp.{nat_list_cmp_total, tied_itself}
-use Rattle.std.specs.FinMap.Entries.{below_all}
-use Rattle.path_order.specs.declared.kind.Kind.{Kind}
-use Rattle.path_order.specs.Path.{is_root, joined}
-use Rattle.path_order.specs.Order.{path_cmp}
-use Rattle.path_order.specs.Names.{is_name}
+use Rattle.path_order.specs.Path.{joined}
 use Rattle.path_order.specs.NameList.{Listed}
 use Rattle.loc_outside.specs.Trees.{Dir, Dirs}
-use Rattle.tree_scan.specs.Admitted.{is_directory, fits_in, admitted, paths_in, names_directory}
-use Rattle.tree_scan.specs.Reach.{Test, is_open, leads, is_led}
-use Rattle.mlocate_db.specs.Items.{in_directory}
-use Rattle.tree_scan.proofs.Lists.{Each, Has, Rises, each_more, each_all, each_append, each_flat_map, each_map, each_filter, has_left, has_right, has_flat_map}
-use Rattle.tree_scan.proofs.Order.{Before, NoSlash, path_total, path_same}
-use Rattle.tree_scan.proofs.Walk.{here, next, walk, IsGood, joined_is, admitted_good, subtree, subtree_is}
+use Rattle.tree_scan.specs.Admitted.{is_directory, admitted, paths_in, names_directory}
+use Rattle.tree_scan.specs.Reach.{Test, is_open, leads}
+use Rattle.tree_scan.proofs.Lists.{Each, Has, each_more, each_append, each_flat_map, each_map, has_left, has_right, has_flat_map}
+use Rattle.tree_scan.proofs.Order.{NoSlash}
+use Rattle.tree_scan.proofs.Walk.{here, next, walk, IsGood, admitted_good, subtree, subtree_is}
 use Rattle.tree_scan.proofs.Sorted.{here_by}
 
 -- the path that names lead to

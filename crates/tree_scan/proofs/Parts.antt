@@ -1,22 +1,20 @@
 -- Paths and the names between their slashes.
-use Rattle.std.proofs.Common.{◌≡◌, ◌≢◌, ℕ, zero, suc, ◌+◌, ◌<◌, ◌≤◌, Bool, true, false, not, cond, ◌&&◌, ◌||◌, ◌==◌, nat_eq, List, [], ◌∷◌, ◌++◌, map, length, drop, take, get_or, All, refl, sym, ◌∙◌, ap, subst, arith, Option, Some, None, true≢false, append_assoc, append-nil, length-append, if◌then◌else◌, eq-eqb, eqb-true, count_by}
-use Rattle.std.proofs.lemmas.Bool.Decides.{nat_tests, Decides-eqb}
+use Rattle.std.proofs.Common.{◌≡◌, ℕ, zero, suc, ◌<◌, ◌≤◌, Bool, true, false, ◌&&◌, ◌||◌, nat_eq, List, [], ◌∷◌, ◌++◌, length, drop, All, refl, sym, ◌∙◌, ap, subst, arith, true≢false, append_assoc, length-append, if◌then◌else◌}
+use Rattle.std.proofs.lemmas.Bool.Decides.{Decides-eqb}
 use Rattle.std.proofs.lemmas.List.Splits.{slice_split_at, slice_split_none, join_with_byte-slice_split}
 use Rattle.std.proofs.lemmas.Slice.Eq.{starts_is}
 use Rattle.std.specs.List.{list_any, slice_split, join_with_byte, starts_with}
 use Rattle.std.specs.Str.{bytes_eq}
 use Rattle.std.specs.Cmp.Lexicographic.{bytes_decides}
-use Rattle.std.specs.FinMap.{FinMap, get}
 use Rattle.path_order.specs.Path.{is_root, is_slash, joined}
 use Rattle.loc_outside.specs.Trees.{Dir, Dirs}
 use Rattle.mlocate_db.specs.Items.{in_directory}
-use Rattle.tree_scan.specs.Admitted.{names_directory}
-use Rattle.tree_scan.specs.Reach.{Test, is_open, leads, is_led}
+use Rattle.tree_scan.specs.Reach.{Test, leads, is_led}
 use Rattle.tree_scan.proofs.Lists.{Each}
 use Rattle.tree_scan.proofs.Order.{NoSlash}
-use Rattle.tree_scan.proofs.Walk.{IsGood, joined_is}
+use Rattle.tree_scan.proofs.Walk.{joined_is}
 use Rattle.tree_scan.proofs.Sorted.{joined_no_root}
-use Rattle.tree_scan.proofs.Members.{path_by, IsFine, Led, leads_good, leads_found}
+use Rattle.tree_scan.proofs.Members.{path_by, IsFine, Led, leads_good}
 
 -- the text of names with slashes between them
 abbrev pub text_of : List ℕ → List (List ℕ) → List ℕ

@@ -1,5 +1,5 @@
 -- What was written, name by name.
-use Rattle.std.proofs.Common.{◌≡◌, ℕ, zero, suc, ◌+◌, ◌<◌, ◌≤◌, Bool, true, false, List, [], ◌∷◌, ◌++◌, length, take, drop, flat_map, slice_get, IsSomeAnd, IsTrue, All, refl, sym, ◌∙◌, ap, subst, arith, Option, Some, None, Ok, Err, Result, append_assoc, append-nil, length-append, if◌then◌else◌, is_some, true≢false, add-one}
+use Rattle.std.proofs.Common.{◌≡◌, ℕ, zero, suc, ◌+◌, ◌≤◌, Bool, true, false, List, [], ◌∷◌, ◌++◌, length, take, drop, flat_map, slice_get, IsSomeAnd, IsTrue, All, sym, ◌∙◌, ap, subst, arith, Option, Some, None, Ok, Err, Result, append_assoc, append-nil, if◌then◌else◌, is_some, true≢false, add-one}
 use Rattle.std.specs.Prelude.{OnErr, OnOk, IsOk}
 use Rattle.std.specs.Option.{option_map_or}
 use Rattle.std.proofs.lemmas.List.{take_all}
@@ -8,17 +8,17 @@ use Rattle.std.specs.Io.KnownBytes.{Appends}
 use Rattle.path_order.specs.declared.kind.Kind.{Kind}
 use Rattle.path_order.specs.NameList.{Listed}
 use Rattle.loc_outside.specs.Outside.{AppendsPart}
-use Rattle.loc_outside.proofs.Parts.{part_first, part_second, part_none}
+use Rattle.loc_outside.proofs.Parts.{part_first, part_second}
 use Rattle.tree_scan.specs.Admitted.{fits_in}
 use Rattle.tree_scan.specs.Blocks.{line, lines_of}
 
 abbrev pub Known : Type 0
 Known = Option (List ℕ)
 
-not_none : {A : Type 0} (x : A) → Some x ≡ None → ⊥
+pub not_none : {A : Type 0} (x : A) → Some x ≡ None → ⊥
 not_none x e = true≢false (ap is_some e)
 
-some_is : {A : Type 0} (x y : A) → Some x ≡ Some y → x ≡ y
+pub some_is : {A : Type 0} (x y : A) → Some x ≡ Some y → x ≡ y
 some_is x y e = ap (λ (o : Option _). option_map_or (λ z. z) o x) e
 
 -- the elements up to a place, and the one there

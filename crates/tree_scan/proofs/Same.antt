@@ -1,10 +1,10 @@
 -- The walk gives the set in path order.
-use Rattle.std.proofs.Common.{◌≡◌, ◌≢◌, ℕ, ◌≤◌, Bool, true, false, cond, ◌&&◌, T, List, [], ◌∷◌, length, refl, sym, ◌∙◌, ap, subst, Option, Some, None, true≢false, Less, Equal, Greater, nat_cmp, is_eq, is_lt, Ordering, inl, inr}
+use Rattle.std.proofs.Common.{◌≡◌, ℕ, ◌≤◌, Bool, true, false, cond, ◌&&◌, T, List, [], ◌∷◌, length, refl, sym, ◌∙◌, ap, subst, Option, Some, None, true≢false, Less, Greater, nat_cmp, is_eq, is_lt, Ordering, inl, inr}
 use Rattle.std.specs.Option.{option_map_or}
 use Rattle.std.specs.Ordering.{eq_by_cmp, ordering_reverse}
-use Rattle.std.specs.Cmp.{Equal-is, IsTotalOrder}
+use Rattle.std.specs.Cmp.{Equal-is}
 use Rattle.std.specs.Cmp.Lexicographic.{slice_cmp}
-use Rattle.std.specs.FinMap.{FinMap, IsAntisymmetric, get, entries, entries_sorted, is_sorted, find, get-entries, get-retain_keys, get-from_entries, retain_keys, nat_cmp-IsAntisymmetric, slice_cmp-IsAntisymmetric}
+use Rattle.std.specs.FinMap.{get, entries, entries_sorted, is_sorted, find, get-entries, get-retain_keys, get-from_entries, retain_keys, nat_cmp-IsAntisymmetric, slice_cmp-IsAntisymmetric}
 use Rattle.std.specs.FinMap.Entries.{below_all, same_entries}
 use Rattle.std.proofs.lemmas.Cmp.{nat_list_cmp_total, tied_itself}
 use Rattle.path_order.specs.Order.{path_cmp}
@@ -14,8 +14,8 @@ use Rattle.tree_scan.proofs.Lists.{Each, Has, Rises, each_has}
 use Rattle.tree_scan.proofs.Order.{Before, path_total, path_same}
 use Rattle.tree_scan.proofs.Walk.{walk, subtree}
 use Rattle.tree_scan.proofs.Sorted.{ByPath, walk_rises}
-use Rattle.tree_scan.proofs.Members.{Led, walk_led, led_walked, leads_found, path_by}
-use Rattle.tree_scan.proofs.Parts.{Reaches, led_reaches, led_is}
+use Rattle.tree_scan.proofs.Members.{Led, walk_led, led_walked, leads_found}
+use Rattle.tree_scan.proofs.Parts.{led_reaches, led_is}
 
 both : (a b : Bool) → a ≡ true → T b → T (a && b)
 both true b e h = h
@@ -33,7 +33,7 @@ sorted_from : (es : List (List ℕ × Dir)) → Rises ByPath es → T (is_sorted
 sorted_from [] h = tt
 sorted_from (e ∷ es) h = both (below_all path_cmp e.0 es) _ (true_T _ (below_from e.0 es h.0)) (sorted_from es h.1)
 
-found_has : (q : List ℕ) (d : Dir) (es : List (List ℕ × Dir)) → find path_cmp q es ≡ Some d → Has {A = List ℕ × Dir} (q, d) es
+pub found_has : (q : List ℕ) (d : Dir) (es : List (List ℕ × Dir)) → find path_cmp q es ≡ Some d → Has {A = List ℕ × Dir} (q, d) es
 found_has q d [] e = absurd (true≢false (sym (ap (λ (o : Option Dir). option_map_or (λ z. true) o false) e)))
 found_has q d (x ∷ es) e = by (eq_by_cmp path_cmp q x.0) refl e (found_has q d es)
   where
@@ -68,7 +68,7 @@ same_test q x =
     (λ t. ap (λ (k : List ℕ). eq_by_cmp (slice_cmp nat_cmp) q k) (sym (path_same q x ((Equal-is _).0 t))) ∙ ap is_eq (tied_itself nat_list_cmp_total q))
     (λ t. ap (λ (k : List ℕ). eq_by_cmp path_cmp q k) (sym (slice_cmp-IsAntisymmetric nat_cmp-IsAntisymmetric q x ((Equal-is _).0 t))) ∙ ap is_eq (tied_itself path_total q))
 
-same_find : (q : List ℕ) (es : List (List ℕ × Dir)) → find path_cmp q es ≡ find (slice_cmp nat_cmp) q es
+pub same_find : (q : List ℕ) (es : List (List ℕ × Dir)) → find path_cmp q es ≡ find (slice_cmp nat_cmp) q es
 same_find q [] = refl
 same_find q (e ∷ es) = λ i. cond (same_test q e.0 i) (Some e.1) (same_find q es i)
 

@@ -1,8 +1,8 @@
 -- The walk goes in path order.
-use Rattle.std.proofs.Common.{◌≡◌, ◌≢◌, ℕ, zero, suc, ◌+◌, ◌<◌, ◌≤◌, Bool, true, false, not, cond, ◌&&◌, List, [], ◌∷◌, ◌++◌, map, length, filter, flat_map, refl, sym, ◌∙◌, ap, subst, arith, Option, Some, None, T, true≢false, append_assoc, length-append, Less, Equal, Greater, nat_cmp, is_lt, Ordering, if◌then◌else◌}
+use Rattle.std.proofs.Common.{◌≡◌, ℕ, zero, suc, ◌<◌, ◌≤◌, Bool, true, false, cond, ◌&&◌, List, [], ◌∷◌, ◌++◌, length, filter, flat_map, refl, sym, ◌∙◌, ap, subst, arith, Option, Some, None, T, true≢false, append_assoc, length-append, Less, Equal, Greater, nat_cmp, is_lt, Ordering, if◌then◌else◌}
 use Rattle.std.specs.Option.{option_map_or}
 use Rattle.std.specs.Cmp.Lexicographic.{slice_cmp}
-use Rattle.std.specs.FinMap.{FinMap, get, entries, entries_sorted, is_sorted}
+use Rattle.std.specs.FinMap.{get, entries, entries_sorted, is_sorted}
 use Rattle.std.specs.FinMap.Entries.{below_all}
 use Rattle.path_order.specs.declared.kind.Kind.{Kind}
 use Rattle.path_order.specs.Path.{is_root, joined}
@@ -12,9 +12,9 @@ use Rattle.loc_outside.specs.Trees.{Dir, Dirs}
 use Rattle.tree_scan.specs.Admitted.{is_directory, fits_in, admitted, paths_in}
 use Rattle.tree_scan.specs.Reach.{Test, is_open}
 use Rattle.mlocate_db.specs.Items.{in_directory}
-use Rattle.tree_scan.proofs.Lists.{Each, Rises, each_more, each_all, each_both, each_append, each_flat_map, each_map, each_filter, rises_filter, rises_append, rises_flat_map, rises_map, each_pair}
-use Rattle.tree_scan.proofs.Order.{Before, IsTail, NoSlash, same_front, before_longer, before_sibling}
-use Rattle.tree_scan.proofs.Walk.{here, next, walk, IsGood, joined_is, admitted_good, subtree}
+use Rattle.tree_scan.proofs.Lists.{Each, Rises, each_more, each_all, each_append, each_flat_map, each_map, each_filter, rises_filter, rises_append, rises_flat_map, rises_map, each_pair}
+use Rattle.tree_scan.proofs.Order.{Before, IsTail, same_front, before_longer, before_sibling}
+use Rattle.tree_scan.proofs.Walk.{here, next, walk, IsGood, joined_is, admitted_good}
 
 -- a path that goes on from another at a slash
 pub record Under (path x : List ℕ) : Type 0 where

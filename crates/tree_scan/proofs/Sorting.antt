@@ -1,7 +1,6 @@
 -- The names of a listing, put in order.
-use Rattle.std.proofs.Common.{◌≡◌, ℕ, ◌<◌, Bool, true, false, cond, List, [], ◌∷◌, filter, length, refl, sym, ◌∙◌, ap, subst, arith, ◌&&◌, nat_cmp, is_lt, Less, IsPermutation, IsTrue, All, Contains, ◌⊎◌, inl, inr, suc, zero, get_or}
+use Rattle.std.proofs.Common.{◌≡◌, ℕ, ◌<◌, Bool, true, false, cond, List, [], ◌∷◌, filter, length, refl, sym, ◌∙◌, ap, subst, arith, ◌&&◌, nat_cmp, is_lt, Less, IsPermutation, All, Contains, inl, inr, suc, zero, get_or}
 use Rattle.std.proofs.lemmas.List.{get_or_default}
-use Rattle.std.specs.Prelude.{◌↔◌}
 use Rattle.std.specs.Cmp.Lexicographic.{slice_cmp}
 use Rattle.std.specs.FinMap.{is_sorted, entries, entries_sorted}
 use Rattle.std.specs.FinMap.Entries.{below_all}

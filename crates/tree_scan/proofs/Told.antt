@@ -1,6 +1,6 @@
 -- What a tree that tells its directories has answered.
-use Rattle.std.proofs.Common.{◌≡◌, ◌≢◌, ℕ, zero, suc, ◌+◌, ◌-◌, ◌<◌, ◌≤◌, Bool, true, false, not, cond, ◌&&◌, IsTrue, MatchBool, List, [], ◌∷◌, ◌++◌, map, length, take, drop, filter, flat_map, slice_get, refl, sym, ◌∙◌, ap, subst, arith, Option, Some, None, Ok, Err, true≢false, append_assoc, append-nil, length-append, if◌then◌else◌, is_some, IsPermutation, IsSomeAnd, All, Contains, get_or, IsErrOf, Result, inl, inr}
-use Rattle.std.proofs.lemmas.List.{length-map, get_or_default}
+use Rattle.std.proofs.Common.{◌≡◌, ℕ, zero, suc, ◌+◌, ◌≤◌, Bool, true, false, not, cond, ◌&&◌, IsTrue, MatchBool, List, [], ◌∷◌, ◌++◌, map, length, take, drop, filter, slice_get, refl, sym, ◌∙◌, ap, subst, arith, Option, Some, None, Ok, Err, true≢false, append_assoc, length-append, if◌then◌else◌, is_some, IsPermutation, IsSomeAnd, All, IsErrOf, Result}
+use Rattle.std.proofs.lemmas.List.{length-map}
 use Rattle.std.proofs.lemmas.List.Elements.{All-cons, All-append}
 use Rattle.std.specs.Option.{option_map, option_map_or}
 use Rattle.std.specs.FinMap.{get, entries}

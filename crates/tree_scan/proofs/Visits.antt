@@ -1,6 +1,5 @@
 -- What a directory adds to a walk.
-use Rattle.std.proofs.Common.{◌≡◌, ℕ, ◌≤◌, ◌<◌, ◌+◌, ◌*◌, ◌^◌, Bool, true, false, not, cond, ◌&&◌, ◌==◌, IsTrue, All, List, [], ◌∷◌, ◌++◌, length, filter, flat_map, refl, sym, ◌∙◌, ap, subst, arith, append-nil, Option, Some, None, true≢false, if◌then◌else◌}
-use Rattle.std.specs.Option.{option_map_or}
+use Rattle.std.proofs.Common.{◌≡◌, ℕ, ◌≤◌, ◌<◌, ◌+◌, ◌^◌, Bool, true, false, not, cond, ◌&&◌, ◌==◌, List, [], ◌∷◌, ◌++◌, length, flat_map, refl, sym, ◌∙◌, ap, subst, arith, append-nil, Option, Some, true≢false, if◌then◌else◌}
 use Rattle.std.specs.FinMap.{get}
 use Rattle.std.specs.Io.KnownBytes.{Appends}
 use Rattle.std.proofs.KnownBytes.{Appends-nil}
@@ -11,13 +10,14 @@ use Rattle.loc_outside.specs.Outside.{AppendsPart}
 use Rattle.loc_outside.proofs.Parts.{part_none}
 use Rattle.loc_outside.specs.Trees.{Dir, Dirs}
 use Rattle.tree_scan.specs.Admitted.{admitted, paths_in}
-use Rattle.tree_scan.specs.Blocks.{block, block_text, entries_of, lines, lines_of, stamped, time_of}
+use Rattle.tree_scan.specs.Blocks.{block, block_pieces, block_text, entries_of, lines, lines_of, pieces, stamped, time_of}
 use Rattle.tree_scan.specs.Plan.{Plan}
 use Rattle.tree_scan.specs.Reach.{is_open, is_tried}
-use Rattle.tree_scan.specs.Records.{Record, Fitting, Leaves, is_vouched, unvouched}
-use Rattle.tree_scan.specs.Steps.{here, next, weight}
-use Rattle.tree_scan.specs.Walks.{Passes, Breaks, AddsChildren, opens, standing}
+use Rattle.tree_scan.specs.Records.{Record, Leaves, is_vouched, unvouched}
+use Rattle.tree_scan.specs.Steps.{here, weight}
+use Rattle.tree_scan.specs.Walks.{Passes, Breaks, LinesFollow, AddsChildren, opens, standing}
 use Rattle.tree_scan.specs.declared.progress.Progress.{Progress}
+use Rattle.tree_scan.proofs.Follows.{Pieces, follows_none}
 use Rattle.tree_scan.proofs.Told.{one, here_open, next_open, here_tried, Nothing}
 
 abbrev Known : Type 0
@@ -82,14 +82,17 @@ passes_nothing dirs plan now path u e old n = record {
 pub breaks_shown : (dirs : Dirs) (plan : Plan) (now time stamp : Moment) (written device : ℕ) (path : List ℕ) (dir : Dir) (names : Listed) (u v e f : Known)
     → get dirs path ≡ Some dir → plan.pruned path ≡ false → (dir.hidden ≡ false) × (names ≡ admitted path dir) → time ≡ time_of dir.times
     → stamp ≡ stamped plan.margin time now → written ≡ (if plan.version == 1 then device else 0) → device ≡ plan.device_of path
-    → AppendsPart u v (block_text stamp written path names) → AppendsPart e f (lines_of plan.verbose path names) → Breaks dirs plan now path u v e f
-breaks_shown dirs plan now time stamp written device path dir names u v e f found open_ seen at stamp_is written_is device_is put lined =
+    → AppendsPart u v (block_text stamp written path names) → AppendsPart e f (lines_of plan.verbose path names) → LinesFollow (block_pieces plan.verbose stamp written path names) u v e f → Breaks dirs plan now path u v e f
+breaks_shown dirs plan now time stamp written device path dir names u v e f found open_ seen at stamp_is written_is device_is put lined follows =
     let here_is : here dirs (is_open plan.pruned) path ≡ one path dir = here_open dirs plan.pruned path dir found open_ ∙ ap (λ (b : Bool). cond b [] (one path dir)) seen.0 in
     let text : block_text stamp written path names ≡ block plan now (path, dir) =
     λ i. block_text ((stamp_is ∙ ap (λ (t : Moment). stamped plan.margin t now) at) i) ((written_is ∙ ap (λ (d : ℕ). if plan.version == 1 then d else 0) device_is) i) path (seen.1 i) in
+    let pieces_are : block_pieces plan.verbose stamp written path names ≡ pieces plan now (path, dir) =
+    λ i. block_pieces plan.verbose ((stamp_is ∙ ap (λ (t : Moment). stamped plan.margin t now) at) i) ((written_is ∙ ap (λ (d : ℕ). if plan.version == 1 then d else 0) device_is) i) path (seen.1 i) in
     record {
       written = subst (λ (l : List ℕ). AppendsPart u v l) (text ∙ sym (ap (flat_map (block plan now)) here_is ∙ append-nil (block plan now (path, dir)))) put;
       lined = subst (λ (l : List ℕ). AppendsPart e f l) (ap (lines_of plan.verbose path) seen.1 ∙ sym (ap (flat_map (lines plan)) here_is ∙ append-nil (lines plan (path, dir)))) lined;
+      follows = subst (λ (l : Pieces). LinesFollow l u v e f) (pieces_are ∙ sym (ap (flat_map (pieces plan now)) here_is ∙ append-nil (pieces plan now (path, dir)))) follows;
     }
 
 -- nothing was written
@@ -97,6 +100,7 @@ pub breaks_none : (dirs : Dirs) (plan : Plan) (now : Moment) (path : List ℕ) (
 breaks_none dirs plan now path u v e f same_t same_e = record {
   written = subst (λ (o : Known). AppendsPart u o (flat_map (block plan now) (here dirs (is_open plan.pruned) path))) (sym same_t) (part_none u _);
   lined = subst (λ (o : Known). AppendsPart e o (flat_map (lines plan) (here dirs (is_open plan.pruned) path))) (sym same_e) (part_none e _);
+  follows = subst (λ (o : Known). LinesFollow (flat_map (pieces plan now) (here dirs (is_open plan.pruned) path)) u o e f) (sym same_t) (subst (λ (o : Known). LinesFollow (flat_map (pieces plan now) (here dirs (is_open plan.pruned) path)) u u e o) (sym same_e) (follows_none _ u e));
 }
 
 -- what a directory is worth

@@ -1,22 +1,17 @@
 -- The walk as a recursion: a directory, then what is below each of its directories in the order of their names.
-use Rattle.std.proofs.Common.{◌≡◌, ◌≢◌, ℕ, zero, suc, ◌+◌, ◌<◌, ◌≤◌, Bool, true, false, not, cond, ◌&&◌, ◌||◌, ◌==◌, nat_lt, nat_le, IsTrue, List, [], ◌∷◌, ◌++◌, map, length, filter, flat_map, refl, sym, ◌∙◌, ap, subst, arith, Option, Some, None, T, true≢false, append_assoc, length-append, Less, Equal, Greater, nat_cmp, is_lt, Ordering, leb-true, ltb-true, if◌then◌else◌}
+use Rattle.std.proofs.Common.{◌≡◌, ℕ, zero, suc, ◌+◌, ◌<◌, ◌≤◌, Bool, true, false, not, cond, ◌&&◌, nat_lt, List, [], ◌∷◌, ◌++◌, length, filter, flat_map, refl, sym, ap, arith, Option, Some, None, true≢false, append_assoc, length-append, leb-true, ltb-true, if◌then◌else◌}
 use Rattle.std.specs.Option.{option_map_or}
-use Rattle.std.specs.List.{list_any}
-use Rattle.std.specs.Str.{bytes_eq}
-use Rattle.std.specs.Cmp.Lexicographic.{slice_cmp}
-use Rattle.std.specs.FinMap.{FinMap, get, entries, entries_sorted, is_sorted}
-use Rattle.path_order.specs.declared.kind.Kind.{Kind}
+use Rattle.std.specs.FinMap.{get, entries}
 use Rattle.path_order.specs.Path.{is_root, joined}
-use Rattle.path_order.specs.Order.{path_cmp}
 use Rattle.path_order.specs.Names.{is_name}
 use Rattle.path_order.specs.NameList.{Listed}
 use Rattle.loc_outside.specs.Trees.{Dir, Dirs}
 use Rattle.tree_scan.specs.Admitted.{is_directory, fits_in, admitted, paths_in}
-use Rattle.tree_scan.specs.Reach.{Test, is_open, is_tried}
+use Rattle.tree_scan.specs.Reach.{Test, is_open}
 use Rattle.mlocate_db.specs.Items.{in_directory}
 unfoldable pub use Rattle.tree_scan.specs.Steps.{here, next, walk, subtree}
-use Rattle.tree_scan.proofs.Lists.{Each, Has, Rises, each_more, each_all, each_both, each_append, each_flat_map, each_map, each_filter, each_passes, rises_filter, rises_append, rises_flat_map, flat_map_same}
-use Rattle.tree_scan.proofs.Order.{Before, IsTail, NoSlash, before_trans, same_front, before_longer, before_sibling}
+use Rattle.tree_scan.proofs.Lists.{Each, each_more, each_map, each_filter, each_passes, flat_map_same}
+use Rattle.tree_scan.proofs.Order.{NoSlash}
 
 -- a name that may stand in a path
 pub record IsGood (path name : List ℕ) : Type 0 where

@@ -1,5 +1,5 @@
 -- The bytes of a complete scan, and the lines that are echoed beside it.
-use Rattle.std.specs.Prelude.{ℕ, Bool, ◌==◌, List, [], ◌∷◌, ◌++◌, if◌then◌else◌}
+use Rattle.std.specs.Prelude.{ℕ, Bool, map, ◌==◌, List, [], ◌∷◌, ◌++◌, if◌then◌else◌}
 use Rattle.std.specs.List.{flat_map}
 use Rattle.path_order.specs.declared.kind.Kind.{Kind}
 use Rattle.path_order.specs.NameList.{Listed}
@@ -68,3 +68,15 @@ lines plan e = lines_of plan.verbose e.0 (admitted e.0 e.1)
 -- all lines: the paths of the admitted names of each reached directory, in path order
 abbrev pub echo_text : Dirs → Plan → List ℕ
 echo_text dirs plan = flat_map (lines plan) (reached dirs plan.pruned plan.root)
+
+-- What is written at once, and the line that is echoed after it: the head of a block, each entry with its line, the end.
+abbrev pub block_pieces : Bool → Moment → ℕ → List ℕ → Listed → List (List ℕ × List ℕ)
+block_pieces verbose stamp device path names =
+    (head_text stamp device path, []) ∷ map (λ e. (entry_text e, if verbose then line path e else [])) names ++ (spell EndItem, []) ∷ []
+
+abbrev pub pieces : Plan → Moment → List ℕ × Dir → List (List ℕ × List ℕ)
+pieces plan now e = block_pieces plan.verbose (stamped plan.margin (time_of e.1.times) now) (device_in plan e.0) e.0 (admitted e.0 e.1)
+
+-- the pieces of a complete scan: the header, and those of the blocks
+abbrev pub scan_pieces : Dirs → Plan → Moment → List (List ℕ × List ℕ)
+scan_pieces dirs plan now = (header plan, []) ∷ flat_map (pieces plan now) (reached dirs plan.pruned plan.root)

@@ -1,11 +1,11 @@
--- Pending paths.
-use Rattle.std.specs.Prelude.{ℕ, List, map, reverse, All, IsTrue}
+-- Pending paths, which lie in one text.
+use Rattle.std.specs.Prelude.{ℕ, List, [], ◌∷◌, take, drop, All, IsTrue}
 use Rattle.path_order.specs.Path.{is_normal}
-use Rattle.tree_scan.specs.declared.pending.PendingPath.{PendingPath}
 
--- pending paths, the one that comes first at the front
-abbrev pub top_first : List PendingPath → List (List ℕ)
-top_first paths = reverse (map (λ p. p.bytes.items) paths)
+-- the paths that begin at these places, the last place first: each goes on to where the one before begins
+abbrev pub paths_at : List ℕ → List ℕ → List (List ℕ)
+paths_at text [] = []
+paths_at text (start ∷ starts) = drop start text ∷ paths_at (take start text) starts
 
-abbrev pub AllNormal : List PendingPath → Type 0
-AllNormal paths = All (λ p. IsTrue (is_normal p.bytes.items)) paths
+abbrev pub AllNormal : List (List ℕ) → Type 0
+AllNormal paths = All (λ p. IsTrue (is_normal p)) paths

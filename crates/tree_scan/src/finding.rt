@@ -32,6 +32,8 @@ pub(crate) fn find_names<T: Tree, V: Voucher>(
     ensures no_write { IsErrOf result ScanFault.WriteFault → ⊥ }
     ensures shown { IfOk result (λ b. (dirs : Dirs) (dir : Dir) → T.dirs tree.old ≡ Some dirs → get dirs path.now ≡ Some dir → time ≡ time_of dir.times → Relied (V.records voucher.old) device path.now dir → MatchBool b ((dir.hidden ≡ false) × (names.new ≡ admitted path.now dir)) (IsTrue dir.hidden)) }
     ensures fitting { IfOk result (λ b. IsTrue b → Fitting path.now names.new) }
+    ensures kept_limit { OnOk result ((dirs : Dirs) (dir : Dir) → T.dirs tree.old ≡ Some dirs → get dirs path.now ≡ Some dir → is_vouched (V.records voucher.old) path.now time device ≡ false → dir.hidden ≡ false → length (entries dir.names) ≤ limit) }
+    ensures listed { IsErrOf result ScanFault.TooManyNames → IsTrue (V.whole voucher.new) → is_vouched (V.records voucher.old) path.now time device ≡ false }
     ensures many { IsErrOf result ScanFault.TooManyNames → (dirs : Dirs) (dir : Dir) → T.dirs tree.old ≡ Some dirs → get dirs path.now ≡ Some dir → (dir.hidden ≡ false) × (limit < length (entries dir.names)) }
     ensures leaves { Leaves path.now (V.records voucher.old) (V.whole voucher.old) (V.records voucher.new) (V.whole voucher.new) }
     ensures sound { OnOk result (IsTrue (V.sound voucher.new)) }

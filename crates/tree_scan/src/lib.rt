@@ -16,7 +16,7 @@ mod visiting;
 mod voucher;
 mod walking;
 
-pub use laws::walk_is_in_path_order;
+pub use laws::{pieces_make_the_scan, walk_is_in_path_order};
 pub use rules::{Counts, Limits, Rules, ScanFault};
 pub use scanning::scan;
 pub use voucher::{NoVoucher, Voucher};

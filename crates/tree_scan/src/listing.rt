@@ -51,6 +51,7 @@ fn read_names<T: Tree>(
     ensures ok { OnOk result ((listed : Listed) → T.rest tree.old ≡ Some listed → names.new ≡ filter (λ e. fits_in path.now e.0) listed) }
     ensures fits { OnOk result (All (λ e. IsTrue (fits_in path.now e.0)) names.new) }
     ensures within { OnOk result (length names.new ≤ limit) }
+    ensures kept_limit { OnOk result ((listed : Listed) → T.rest tree.old ≡ Some listed → length listed ≤ limit) }
     ensures many { IsErrOf result ScanFault.TooManyNames → (listed : Listed) → T.rest tree.old ≡ Some listed → limit < length listed }
     ensures openings { T.openings tree.new ≡ T.openings tree.old }
     ensures stats { T.stats tree.new ≡ T.stats tree.old }
@@ -91,6 +92,7 @@ pub(crate) fn list_names<T: Tree>(
     ensures no_write { IsErrOf result ScanFault.WriteFault → ⊥ }
     ensures shown { IfOk result (λ b. (dirs : Dirs) (dir : Dir) → T.dirs tree.old ≡ Some dirs → get dirs path.now ≡ Some dir → MatchBool b ((dir.hidden ≡ false) × (names.new ≡ admitted path.now dir)) (IsTrue dir.hidden)) }
     ensures fitting { IfOk result (λ b. IsTrue b → Fitting path.now names.new) }
+    ensures kept_limit { OnOk result ((dirs : Dirs) (dir : Dir) → T.dirs tree.old ≡ Some dirs → get dirs path.now ≡ Some dir → dir.hidden ≡ false → length (entries dir.names) ≤ limit) }
     ensures many { IsErrOf result ScanFault.TooManyNames → (dirs : Dirs) (dir : Dir) → T.dirs tree.old ≡ Some dirs → get dirs path.now ≡ Some dir → (dir.hidden ≡ false) × (limit < length (entries dir.names)) }
     ensures openings { T.openings tree.new ≡ raised (T.openings tree.old) 1 }
     ensures stats { T.stats tree.new ≡ T.stats tree.old }

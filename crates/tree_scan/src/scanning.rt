@@ -1,17 +1,17 @@
 //! The complete scan.
 ghost use Rattle.std.specs.Prelude.{◌≡◌, ◌≤◌, ◌<◌, ◌+◌, ◌^◌, ◌⊎◌, length, take, OnOk, OnErr, IfOk, IsTrue, IsErrOf, Some, None, false};
-ghost use Rattle.std.specs.FinMap.{get};
+ghost use Rattle.std.specs.FinMap.{get, entries};
 ghost use Rattle.std.specs.Io.KnownBytes.{Appends};
 ghost use Rattle.path_order.specs.Path.{is_normal};
 ghost use Rattle.loc_outside.specs.Causes.{Rose};
 ghost use Rattle.loc_outside.specs.Outside.{AppendsPart};
 ghost use Rattle.loc_outside.specs.Trees.{Dirs};
-ghost use Rattle.tree_scan.specs.Blocks.{scan_text, echo_text, entries_of};
+ghost use Rattle.tree_scan.specs.Blocks.{scan_text, scan_pieces, echo_text, entries_of};
 ghost use Rattle.tree_scan.specs.Plans.{plan_of};
 ghost use Rattle.tree_scan.specs.Reach.{reached, tried as tried_directories};
 ghost use Rattle.tree_scan.specs.Records.{Honest, unvouched};
 ghost use Rattle.tree_scan.specs.Steps.{priced_candidates};
-ghost use Rattle.tree_scan.specs.Walks.{ListsMore, StopsAtWide, Whole, WroteOf};
+ghost use Rattle.tree_scan.specs.Walks.{HasWide, LinesFollow, ListsMore, Narrow, StopsAt, StopsAtWide, StopsWide, Whole, WroteOf};
 
 use crate::progress::Progress;
 use crate::put::put_front;
@@ -62,9 +62,16 @@ pub fn scan<T: Tree, V: Voucher, D: Sink, P: Sink>(
     ensures openings { T.openings tree.new ≤ T.openings tree.old + limits.now.directories }
     ensures many { IsErrOf result ScanFault.TooManyDirectories → (dirs : Dirs) → T.dirs tree.old ≡ Some dirs → Honest (V.records voucher.old) dirs (plan_of rules.now) → limits.now.directories < length (tried_directories dirs (plan_of rules.now).pruned (plan_of rules.now).root) }
     ensures many_names { IsErrOf result ScanFault.TooManyNames → (dirs : Dirs) → T.dirs tree.old ≡ Some dirs → ListsMore dirs limits.now.names }
+    ensures narrow { OnOk result ((dirs : Dirs) → T.dirs tree.old ≡ Some dirs → Honest (V.records voucher.old) dirs (plan_of rules.now) → Narrow limits.now.names (unvouched (V.records voucher.old) (plan_of rules.now) (reached dirs (plan_of rules.now).pruned (plan_of rules.now).root))) }
+    ensures wide { IsErrOf result ScanFault.TooManyNames → (dirs : Dirs) → T.dirs tree.old ≡ Some dirs → Honest (V.records voucher.old) dirs (plan_of rules.now) → IsTrue (V.whole voucher.new) → HasWide limits.now.names (unvouched (V.records voucher.old) (plan_of rules.now) (reached dirs (plan_of rules.now).pruned (plan_of rules.now).root)) }
+    ensures many_directories { IsErrOf result ScanFault.TooManyDirectories → (dirs : Dirs) → T.dirs tree.old ≡ Some dirs → limits.now.directories < length (entries dirs) }
     ensures part { OnErr result ((dirs : Dirs) → T.dirs tree.old ≡ Some dirs → Honest (V.records voucher.old) dirs (plan_of rules.now) → AppendsPart (D.taken sink.old) (D.taken sink.new) (scan_text dirs (plan_of rules.now) now)) }
     ensures echo_part { OnErr result ((dirs : Dirs) → T.dirs tree.old ≡ Some dirs → Honest (V.records voucher.old) dirs (plan_of rules.now) → AppendsPart (P.taken echo.old) (P.taken echo.new) (echo_text dirs (plan_of rules.now))) }
+    ensures follows { OnErr result ((dirs : Dirs) → T.dirs tree.old ≡ Some dirs → Honest (V.records voucher.old) dirs (plan_of rules.now) → LinesFollow (scan_pieces dirs (plan_of rules.now) now) (D.taken sink.old) (D.taken sink.new) (P.taken echo.old) (P.taken echo.new)) }
     ensures whole_tree { IsErrOf result ScanFault.TreeFault → (dirs : Dirs) → T.dirs tree.old ≡ Some dirs → Honest (V.records voucher.old) dirs (plan_of rules.now) → Whole dirs (plan_of rules.now) now (D.taken sink.old) (D.taken sink.new) (P.taken echo.old) (P.taken echo.new) }
+    ensures stops { IsErrOf result ScanFault.TreeFault → (dirs : Dirs) → T.dirs tree.old ≡ Some dirs → Honest (V.records voucher.old) dirs (plan_of rules.now) → StopsAt (V.records voucher.old) limits.now.names limits.now.directories dirs (plan_of rules.now) now (D.taken sink.old) (D.taken sink.new) (P.taken echo.old) (P.taken echo.new) }
+    ensures stops_wide { IsErrOf result ScanFault.TooManyNames → (dirs : Dirs) → T.dirs tree.old ≡ Some dirs → Honest (V.records voucher.old) dirs (plan_of rules.now) → StopsWide (V.records voucher.old) limits.now.names limits.now.directories (V.whole voucher.new) dirs (plan_of rules.now) now (D.taken sink.old) (D.taken sink.new) (P.taken echo.old) (P.taken echo.new) }
+    ensures stops_full { IsErrOf result ScanFault.TooManyDirectories → (dirs : Dirs) → T.dirs tree.old ≡ Some dirs → Honest (V.records voucher.old) dirs (plan_of rules.now) → StopsAt (V.records voucher.old) limits.now.names limits.now.directories dirs (plan_of rules.now) now (D.taken sink.old) (D.taken sink.new) (P.taken echo.old) (P.taken echo.new) }
     ensures whole_names { IsErrOf result ScanFault.TooManyNames → (dirs : Dirs) → T.dirs tree.old ≡ Some dirs → Honest (V.records voucher.old) dirs (plan_of rules.now) → StopsAtWide dirs (plan_of rules.now) now limits.now.names (D.taken sink.old) (D.taken sink.new) (P.taken echo.old) (P.taken echo.new) }
     ensures whole_directories { IsErrOf result ScanFault.TooManyDirectories → (dirs : Dirs) → T.dirs tree.old ≡ Some dirs → Honest (V.records voucher.old) dirs (plan_of rules.now) → WroteOf (plan_of rules.now) now (take limits.now.directories (tried_directories dirs (plan_of rules.now).pruned (plan_of rules.now).root)) (D.taken sink.old) (D.taken sink.new) (P.taken echo.old) (P.taken echo.new) }
     ensures missing { IsErrOf result ScanFault.RootMissing → (dirs : Dirs) → T.dirs tree.old ≡ Some dirs → get dirs rules.now.root ≡ None }

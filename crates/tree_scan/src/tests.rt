@@ -207,29 +207,118 @@ fn limits_and_what_was_written_then(rt: HostRuntime) -> Result<(), AllocError> {
     Ok(())
 }
 
-// The n-th call on the tree fails: what was written until then, and in the end all.
+/// How many bytes are written before the call of this number.
+fn written_before(call: u64) -> usize {
+    match call {
+        1 => 0,
+        2..=5 => 72,
+        6..=9 => 99,
+        10..=12 => 122,
+        13..=15 => 144,
+        _ => 166,
+    }
+}
+
+// The n-th call on the tree fails: the blocks of the directories before the one in hand were written.
 #[test]
 fn faults_of_the_tree(rt: HostRuntime) -> Result<(), AllocError> {
-    for (call, length) in [
-        (1, 0),
-        (2, 72),
-        (5, 72),
-        (6, 99),
-        (9, 99),
-        (10, 122),
-        (12, 122),
-        (13, 144),
-        (15, 144),
-        (16, 166),
-    ] {
+    for call in 1..17 {
         let mut tree = three_levels(rt.alloc(), false)?;
         tree.fail_at(call)?;
         let mut sink = MemSink::with_room(rt.alloc(), 1_000)?;
         let mut echo = MemSink::with_room(rt.alloc(), 100)?;
         let answer = scan_root(rt.alloc(), &plain(), &mut tree, &mut sink, &mut echo);
-        assert_eq!(rt; answer.is_ok(), call == 16);
-        assert_eq!(rt; sink.taken().len(), length);
+        if call == 16 {
+            assert_eq!(rt; answer, counts(4, 3));
+        } else {
+            assert_eq!(rt; answer, Err(ScanFault::TreeFault));
+        }
+        assert_eq!(rt; sink.taken().len(), written_before(call));
     }
+    Ok(())
+}
+
+// The line of an entry is echoed after the entry was written.
+#[test]
+fn faults_of_the_sink_and_the_echo(rt: HostRuntime) -> Result<(), AllocError> {
+    let asked = Asked {
+        verbose: true,
+        ..plain()
+    };
+    for (room, echo_room, taken, echoed) in [
+        (93, 100, 93, 3),
+        (94, 100, 94, 3),
+        (1_000, 5, 98, 5),
+    ] {
+        let mut tree = three_levels(rt.alloc(), false)?;
+        let mut sink = MemSink::with_room(rt.alloc(), room)?;
+        let mut echo = MemSink::with_room(rt.alloc(), echo_room)?;
+        let answer = scan_root(rt.alloc(), &asked, &mut tree, &mut sink, &mut echo);
+        assert_eq!(rt; answer, Err(ScanFault::WriteFault));
+        assert_eq!(rt; (sink.taken().len(), echo.taken().len()), (taken, echoed));
+    }
+    Ok(())
+}
+
+/// The directories of a usual machine.
+const DIRECTORIES: &[u8] =
+    b"/\n/home\n/home/ann\n/home/ann/.git\n/mnt\n/mnt/ann\n/proc\n/proc/1\n/run\n/srv\n/srv/x\n/tmp";
+
+/// The directories that they name.
+const NAMED: &[u8] =
+    b"/ home\n/ mnt\n/ proc\n/ run\n/ srv\n/ tmp\n/home ann\n/home/ann .git\n/mnt ann\n/proc 1\n/srv x";
+
+/// Their files.
+const FILES: &[u8] =
+    b"/ vmlinuz\n/home/ann notes.txt\n/home/ann/.git HEAD\n/mnt/ann notes.txt\n/run pid\n\
+    /srv/x page.html\n/tmp scratch";
+
+const USUAL: &[u8] = b"# usual\nPRUNE_BIND_MOUNTS = \"yes\"\nPRUNEFS = \"proc tmpfs NFS\"\n\
+    PRUNENAMES = \".git .svn\"\nPRUNEPATHS =\t\"/var/spool /tmp\"\n";
+
+const MOUNTS: &[u8] = b"20 1 8:1 / / rw,relatime shared:1 - ext4 /dev/sda1 rw\n\
+    21 20 0:20 / /proc rw,nosuid - proc proc rw\n\
+    22 20 0:21 / /run rw - tmpfs tmpfs rw,size=1000k\n\
+    23 20 8:1 /home/ann /mnt/ann rw shared:1 - ext4 /dev/sda1 rw\n\
+    24 20 8:1 /srv/x /srv/x rw shared:1 - ext4 /dev/sda1 rw\n";
+
+fn put_rows(tree: &mut MemTree, rows: &[u8]) -> Result<(), AllocError> {
+    for path in rows.split(|byte| *byte == b'\n') {
+        put(tree, path, stamp(1_000, 0), false)?;
+    }
+    Ok(())
+}
+
+fn name_rows(tree: &mut MemTree, rows: &[u8], kind: Kind) -> Result<(), AllocError> {
+    for row in rows.split(|byte| *byte == b'\n') {
+        let mut parts = row.split(|byte| *byte == b' ');
+        let Some(dir) = parts.next() else {
+            return Ok(());
+        };
+        let Some(base) = parts.next() else {
+            return Ok(());
+        };
+        name(tree, dir, base, kind)?;
+    }
+    Ok(())
+}
+
+#[test]
+fn a_usual_machine(rt: HostRuntime) -> Result<(), AllocError> {
+    let mut tree = MemTree::new(rt.alloc());
+    put_rows(&mut tree, DIRECTORIES)?;
+    name_rows(&mut tree, NAMED, Kind::Directory)?;
+    name_rows(&mut tree, FILES, Kind::File)?;
+    let mut sink = MemSink::with_room(rt.alloc(), 1_000)?;
+    let mut echo = MemSink::with_room(rt.alloc(), 100)?;
+    let asked = Asked {
+        conf: USUAL,
+        mounts: MOUNTS,
+        ..plain()
+    };
+    let answer = scan_root(rt.alloc(), &asked, &mut tree, &mut sink, &mut echo);
+    assert_eq!(rt; answer, counts(6, 13));
+    assert_eq!(rt; (sink.taken().len(), tree.openings()), (332, 6));
     Ok(())
 }
 
@@ -253,6 +342,13 @@ fn recent_times_and_devices(rt: HostRuntime) -> Result<(), AllocError> {
         (
             NOTHING,
             2_001,
+            0,
+            0,
+            b"\0\0\0\0\0\0\0\0\0\0\0\0\0\0\0\0/\0\x02".as_slice(),
+        ),
+        (
+            NOTHING,
+            0,
             0,
             0,
             b"\0\0\0\0\0\0\0\0\0\0\0\0\0\0\0\0/\0\x02".as_slice(),

@@ -48,6 +48,8 @@ pub(crate) fn visit<T: Tree, V: Voucher, D: Sink, P: Sink>(
     ensures once { progress.new.tried ≤ progress.old.tried + 1 }
     ensures more { OnOk result (length progress.new.pending ≤ length progress.old.pending + 16777216) }
     ensures many { IsErrOf result ScanFault.TooManyDirectories → limits.now.directories ≤ progress.old.tried }
+    ensures kept_limit { OnOk result ((dirs : Dirs) (dir : Dir) → T.dirs tree.old ≡ Some dirs → get dirs path.old ≡ Some dir → is_vouched (V.records voucher.old) path.old time ((plan_of rules.now).device_of path.old) ≡ false → dir.hidden ≡ false → length (entries dir.names) ≤ limits.now.names) }
+    ensures listed { IsErrOf result ScanFault.TooManyNames → IsTrue (V.whole voucher.new) → is_vouched (V.records voucher.old) path.old time ((plan_of rules.now).device_of path.old) ≡ false }
     ensures many_names { IsErrOf result ScanFault.TooManyNames → (dirs : Dirs) (dir : Dir) → T.dirs tree.old ≡ Some dirs → get dirs path.old ≡ Some dir → (dir.hidden ≡ false) × (limits.now.names < length (entries dir.names)) }
     ensures opened { IsTrue (V.whole voucher.new) → T.openings tree.new ≤ T.openings tree.old + (if is_vouched (V.records voucher.old) path.old time ((plan_of rules.now).device_of path.old) then 0 else 1) }
     ensures exact { OnOk result (IsTrue (V.whole voucher.new) → T.openings tree.new ≡ raised (T.openings tree.old) (if is_vouched (V.records voucher.old) path.old time ((plan_of rules.now).device_of path.old) then 0 else 1)) }

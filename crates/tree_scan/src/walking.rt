@@ -8,10 +8,10 @@ ghost use Rattle.loc_outside.specs.Causes.{Rose, raised};
 ghost use Rattle.loc_outside.specs.Trees.{Dirs, Dir};
 ghost use Rattle.tree_scan.specs.Blocks.{time_of};
 ghost use Rattle.tree_scan.specs.Plans.{plan_of};
-ghost use Rattle.tree_scan.specs.Records.{Leaves, Relied};
-ghost use Rattle.tree_scan.specs.Reach.{is_tried};
+ghost use Rattle.tree_scan.specs.Records.{Leaves, Relied, is_vouched, unvouched};
+ghost use Rattle.tree_scan.specs.Reach.{is_open, is_tried};
 ghost use Rattle.tree_scan.specs.Steps.{here, weight};
-ghost use Rattle.tree_scan.specs.Walks.{standing, Passes, Breaks, Counted, AddsChildren, FloorMoves, NamesMore, is_whole_after, opens};
+ghost use Rattle.tree_scan.specs.Walks.{standing, Passes, Breaks, Counted, AddsChildren, FloorMoves, NamesMore, Narrow, is_whole_after, opens};
 
 use crate::progress::Progress;
 use crate::visiting::visit;
@@ -45,6 +45,9 @@ pub(crate) fn come<T: Tree, V: Voucher, D: Sink, P: Sink>(
     ensures breaks { OnErr result ((dirs : Dirs) → T.dirs tree.old ≡ Some dirs → (there : Dir) → get dirs path.old ≡ Some there → time ≡ time_of there.times → ((dir : Dir) → get dirs path.old ≡ Some dir → (plan_of rules.now).pruned path.old ≡ false → Relied (V.records voucher.old) ((plan_of rules.now).device_of path.old) path.old dir) → Breaks dirs (plan_of rules.now) now path.old (D.taken sink.old) (D.taken sink.new) (P.taken echo.old) (P.taken echo.new)) }
     ensures seen { (dirs : Dirs) → T.dirs tree.old ≡ Some dirs → (there : Dir) → get dirs path.old ≡ Some there → time ≡ time_of there.times → progress.new.tried ≤ progress.old.tried + length (here dirs (is_tried (plan_of rules.now).pruned) path.old) }
     ensures many { IsErrOf result ScanFault.TooManyDirectories → (dirs : Dirs) → T.dirs tree.old ≡ Some dirs → (there : Dir) → get dirs path.old ≡ Some there → time ≡ time_of there.times → limits.now.directories < progress.old.tried + length (here dirs (is_tried (plan_of rules.now).pruned) path.old) }
+    ensures kept_limit { OnOk result ((dirs : Dirs) → T.dirs tree.old ≡ Some dirs → (there : Dir) → get dirs path.old ≡ Some there → time ≡ time_of there.times → Narrow limits.now.names (unvouched (V.records voucher.old) (plan_of rules.now) (here dirs (is_open (plan_of rules.now).pruned) path.old))) }
+    ensures listed { IsErrOf result ScanFault.TooManyNames → (dirs : Dirs) → T.dirs tree.old ≡ Some dirs → (there : Dir) → get dirs path.old ≡ Some there → time ≡ time_of there.times → IsTrue (V.whole voucher.new) → is_vouched (V.records voucher.old) path.old (time_of there.times) ((plan_of rules.now).device_of path.old) ≡ false }
+    ensures unpruned { OnErr result ((plan_of rules.now).pruned path.old ≡ false) }
     ensures many_names { IsErrOf result ScanFault.TooManyNames → (dirs : Dirs) → T.dirs tree.old ≡ Some dirs → (there : Dir) → get dirs path.old ≡ Some there → time ≡ time_of there.times → NamesMore dirs (plan_of rules.now).pruned limits.now.names path.old }
     ensures more { OnOk result (length progress.new.pending + 16777216 * progress.old.tried ≤ length progress.old.pending + 16777216 * progress.new.tried) }
     ensures rises { OnOk result (progress.old.tried ≤ progress.new.tried) }
@@ -104,6 +107,9 @@ pub(crate) fn step<T: Tree, V: Voucher, D: Sink, P: Sink>(
     ensures breaks { OnErr result ((dirs : Dirs) → T.dirs tree.old ≡ Some dirs → ((dir : Dir) → get dirs path.old ≡ Some dir → (plan_of rules.now).pruned path.old ≡ false → Relied (V.records voucher.old) ((plan_of rules.now).device_of path.old) path.old dir) → Breaks dirs (plan_of rules.now) now path.old (D.taken sink.old) (D.taken sink.new) (P.taken echo.old) (P.taken echo.new)) }
     ensures seen { (dirs : Dirs) → T.dirs tree.old ≡ Some dirs → progress.new.tried ≤ progress.old.tried + length (here dirs (is_tried (plan_of rules.now).pruned) path.old) }
     ensures many { IsErrOf result ScanFault.TooManyDirectories → (dirs : Dirs) → T.dirs tree.old ≡ Some dirs → limits.now.directories < progress.old.tried + length (here dirs (is_tried (plan_of rules.now).pruned) path.old) }
+    ensures kept_limit { OnOk result ((dirs : Dirs) → T.dirs tree.old ≡ Some dirs → Narrow limits.now.names (unvouched (V.records voucher.old) (plan_of rules.now) (here dirs (is_open (plan_of rules.now).pruned) path.old))) }
+    ensures listed { IsErrOf result ScanFault.TooManyNames → (dirs : Dirs) (dir : Dir) → T.dirs tree.old ≡ Some dirs → get dirs path.old ≡ Some dir → IsTrue (V.whole voucher.new) → is_vouched (V.records voucher.old) path.old (time_of dir.times) ((plan_of rules.now).device_of path.old) ≡ false }
+    ensures unpruned { OnErr result ((plan_of rules.now).pruned path.old ≡ false) }
     ensures many_names { IsErrOf result ScanFault.TooManyNames → (dirs : Dirs) → T.dirs tree.old ≡ Some dirs → NamesMore dirs (plan_of rules.now).pruned limits.now.names path.old }
     ensures more { OnOk result (length progress.new.pending + 16777216 * progress.old.tried ≤ length progress.old.pending + 16777216 * progress.new.tried) }
     ensures rises { OnOk result (progress.old.tried ≤ progress.new.tried) }

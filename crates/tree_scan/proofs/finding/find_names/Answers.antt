@@ -1,4 +1,4 @@
-use Rattle.std.proofs.Common.{rules, ◌≡◌, ◌≤◌, ◌+◌, subst, sym, arith, refl, List, [], Ok, true, false, if◌then◌else◌}
+use Rattle.std.proofs.Common.{rules, ◌≡◌, ◌∙◌, true≢false, subst, sym, [], Ok}
 use Rattle.path_order.specs.Stamp.{Moment}
 use Rattle.tree_scan.specs.Records.{Vouches, is_vouched}
 use Rattle.tree_scan.proofs.Told.{when_true}
@@ -37,3 +37,8 @@ returns-in_err-shown-clause-opened g c = λ w.
 
 pub returns-in_err-shown-clause-many : goal.returns-in_err-shown-clause-many
 returns-in_err-shown-clause-many g c = λ e dirs dir told found. c.in_err-shown.ensures.many (search rules) dirs dir told found
+
+pub returns-then-vouched-clause-kept_limit : goal.returns-then-vouched-clause-kept_limit
+returns-then-vouched-clause-kept_limit g c = λ dirs dir told found unvouched shown.
+    let vouches = when_true c.in-Ok.vouched (Vouches (g.V.Voucher.records c.args.voucher.now) c.args.path.now c.args.time c.args.device c.vouch.new.into) (c.vouch.new.into ≡ []) c.if-vouched.true c.in-Ok.ensures.vouches in
+    absurd (true≢false (sym (vouches_is _ c.args.path.now c.args.time c.args.device c.vouch.new.into vouches) ∙ unvouched))

@@ -1,9 +1,8 @@
-use Rattle.std.proofs.Common.{rules, ◌≡◌, ◌<◌, ◌≤◌, refl, sym, ◌∙◌, ap, arith, true, false, List, ℕ, Some, Option, IsPermutation, IsTrue, length}
+use Rattle.std.proofs.Common.{rules, arith, IsTrue}
 use Rattle.std.specs.FinMap.{entries}
 use Rattle.std.proofs.lemmas.List.Sorted.{length_permutation}
-use Rattle.path_order.specs.NameList.{Listed}
 use Rattle.tree_scan.specs.Admitted.{fits_in}
-use Rattle.tree_scan.proofs.Told.{shown_listing, hidden_listing}
+use Rattle.tree_scan.proofs.Told.{shown_listing}
 use Rattle.tree_scan.proofs.Sorting.{sorted_admitted, all_sorted}
 use Rattle.tree_scan.proofs.listing.list_names.Goals as goal
 
@@ -24,3 +23,9 @@ returns-in_err-read_names-clause-many g c = λ e dirs dir told found.
     let s = shown_listing _ dirs c.args.path.now dir c.in-Ok.listing (g.T.Tree.rest c.open_dir.new.self) told found c.in-Shown.is c.in-Ok.ensures.found in
     let size = length_permutation s.listed (entries dir.names) s.perm in
     (s.shown, omega (arith, size, c.in_err-read_names.ensures.many (search rules) s.listed s.told))
+
+pub returns-clause-kept_limit : goal.returns-clause-kept_limit
+returns-clause-kept_limit g c = λ dirs dir told found shown.
+    let s = shown_listing _ dirs c.args.path.now dir c.in-Ok.listing (g.T.Tree.rest c.open_dir.new.self) told found c.in-Shown.is c.in-Ok.ensures.found in
+    let size = length_permutation s.listed (entries dir.names) s.perm in
+    omega (arith, size, c.in_ok-read_names.ensures.kept_limit s.listed s.told)

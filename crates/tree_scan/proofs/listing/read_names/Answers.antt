@@ -1,6 +1,4 @@
-use Rattle.std.proofs.Common.{◌≡◌, ◌++◌, ◌∷◌, [], refl, sym, ◌∙◌, ap, subst, arith, List, ℕ, Some, Option, IsTrue, length, All, filter, is_some}
-use Rattle.path_order.specs.NameList.{Listed}
-use Rattle.tree_scan.specs.Admitted.{fits_in}
+use Rattle.std.proofs.Common.{◌∙◌, ap, arith, is_some}
 use Rattle.tree_scan.proofs.Told.{gives_some, name_more, fit_more, few_more}
 use Rattle.tree_scan.proofs.listing.read_names.Goals as goal
 

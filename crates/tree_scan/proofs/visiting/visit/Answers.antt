@@ -1,16 +1,16 @@
-use Rattle.std.proofs.Common.{rules, ◌≡◌, ◌≤◌, ◌+◌, ◌++◌, IsTrue, false, true, refl, sym, ◌∙◌, arith, ap, subst, List, ℕ, Some, inl, inr, IfSome, length, if◌then◌else◌}
+use Rattle.std.proofs.Common.{rules, ◌≡◌, ◌+◌, refl, sym, ◌∙◌, ap, subst, List, ℕ, Some}
 use Rattle.std.specs.FinMap.{get}
 use Rattle.std.specs.Io.KnownBytes.{Appends}
 use Rattle.loc_outside.specs.Outside.{AppendsPart}
 use Rattle.tree_scan.specs.Admitted.{admitted}
 use Rattle.loc_outside.specs.Trees.{Dir, Dirs}
-use Rattle.tree_scan.specs.Walks.{Breaks}
-use Rattle.tree_scan.specs.Blocks.{block_text, lines_of, time_of}
+use Rattle.tree_scan.specs.Walks.{Breaks, LinesFollow}
+use Rattle.tree_scan.specs.Blocks.{block_pieces, block_text, lines_of, time_of}
 use Rattle.tree_scan.specs.Plans.{plan_of}
-use Rattle.tree_scan.specs.Records.{Relied, Fitting, is_vouched}
+use Rattle.tree_scan.specs.Records.{Relied}
 use Rattle.tree_scan.proofs.Pieces.{when_err}
 use Rattle.tree_scan.proofs.Told.{seen_true, seen_false, pushed_short}
-use Rattle.tree_scan.proofs.Visits.{passes_shown, passes_hidden, breaks_shown, breaks_none, no_children}
+use Rattle.tree_scan.proofs.Visits.{passes_shown, passes_hidden, breaks_shown, breaks_none}
 use Rattle.tree_scan.proofs.visiting.visit.Goals as goal
 
 pub returns-then-not-found-clause-shown : goal.returns-then-not-found-clause-shown
@@ -53,6 +53,13 @@ returns-in_default-put_block-clause-breaks g c = λ dirs dir told found time rel
     (seen.0, seen.1 ∙ ap (λ (p : List ℕ). admitted p dir) c.bytes-2.ensures.value) time c.stamp_at-stamp.ensures c.written_device-written.ensures device
     (subst (λ (p : List ℕ). AppendsPart (g.D.Sink.taken c.args.sink.now) (g.D.Sink.taken c.put_block.new.sink) (block_text c.stamp_at-stamp.result c.written_device-written.result p c.find_names.new.names)) c.in-Ok.ensures.path c.in_default-put_block.ensures.err)
     (subst (λ (p : List ℕ). AppendsPart (g.P.Sink.taken c.args.echo.now) (g.P.Sink.taken c.put_block.new.echo) (lines_of c.args.rules.now.verbose p c.find_names.new.names)) c.in-Ok.ensures.path c.in_default-put_block.ensures.echo_err)
+    (subst (λ (p : List ℕ). LinesFollow (block_pieces c.args.rules.now.verbose c.stamp_at-stamp.result c.written_device-written.result p c.find_names.new.names) (g.D.Sink.taken c.args.sink.now) (g.D.Sink.taken c.put_block.new.sink) (g.P.Sink.taken c.args.echo.now) (g.P.Sink.taken c.put_block.new.echo)) c.in-Ok.ensures.path c.in_default-put_block.ensures.follows)
 
 pub returns-clause-more : goal.returns-clause-more
 returns-clause-more g c = pushed_short c.args.path.now c.find_names.new.names c.args.progress.now.pending c.push_children.new.pending 16777216 c.in-Ok.ensures.ok (c.in_ok-found.ensures.fitting c.if-not-found.false).few
+
+pub returns-then-progress-limits-clause-breaks : goal.returns-then-progress-limits-clause-breaks
+returns-then-progress-limits-clause-breaks g c = λ dirs dir told found time relied. breaks_none dirs (plan_of c.args.rules.now) c.args.now c.args.path.now _ _ _ _ refl refl
+
+pub returns-in_default-clause-breaks : goal.returns-in_default-clause-breaks
+returns-in_default-clause-breaks g c = λ dirs dir told found time relied. breaks_none dirs (plan_of c.args.rules.now) c.args.now c.args.path.now _ _ _ _ refl refl

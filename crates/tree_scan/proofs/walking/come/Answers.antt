@@ -1,16 +1,14 @@
-use Rattle.std.proofs.Common.{rules, if◌then◌else◌, length, ◌≤◌, ◌<◌, ◌≡◌, ◌++◌, ◌+◌, ◌∷◌, [], IsTrue, false, true, refl, sym, ◌∙◌, arith, ap, subst, List, ℕ, Some, None, Ok, Option, inl, inr}
+use Rattle.std.proofs.Common.{rules, ◌≡◌, false, true, sym, ◌∙◌, arith, ap, Some}
 use Rattle.std.specs.FinMap.{get}
 use Rattle.loc_outside.specs.Causes.{raised}
-use Rattle.loc_outside.specs.Trees.{Dir, Dirs, StatsAs}
+use Rattle.loc_outside.specs.Trees.{Dir, Dirs}
 use Rattle.tree_scan.specs.Blocks.{time_of}
 use Rattle.tree_scan.specs.Plans.{plan_of}
-use Rattle.tree_scan.specs.Reach.{is_tried}
-use Rattle.tree_scan.specs.Records.{Relied, is_vouched}
-use Rattle.tree_scan.specs.Steps.{here}
-use Rattle.tree_scan.specs.Walks.{Breaks, NamesMore, opens}
+use Rattle.tree_scan.specs.Records.{Relied}
+use Rattle.tree_scan.specs.Walks.{Breaks}
 use Rattle.tree_scan.proofs.Pieces.{when_err}
-use Rattle.tree_scan.proofs.Told.{stat_found, stat_none, nothing_missing, nothing_pruned}
-use Rattle.tree_scan.proofs.Visits.{passes_nothing, breaks_none, no_children, leaves_same, raised_nothing, here_once, opens_one, opens_none, stat_weight}
+use Rattle.tree_scan.proofs.Told.{nothing_pruned}
+use Rattle.tree_scan.proofs.Visits.{passes_nothing, no_children, leaves_same, raised_nothing, here_once, opens_one, opens_none}
 use Rattle.tree_scan.proofs.walking.come.Goals as goal
 
 pub returns-then-prunes-clause-done : goal.returns-then-prunes-clause-done

@@ -1,15 +1,13 @@
-use Rattle.std.proofs.Common.{rules, if◌then◌else◌, length, ◌≤◌, ◌<◌, ◌≡◌, ◌++◌, ◌+◌, ◌∷◌, [], IsTrue, false, true, refl, sym, ◌∙◌, arith, ap, subst, List, ℕ, Some, None, Ok, Option, inl, inr}
+use Rattle.std.proofs.Common.{rules, if◌then◌else◌, ◌≡◌, false, true, refl, sym, ◌∙◌, arith, ap, subst, List, ℕ, Some, Ok}
 use Rattle.std.specs.FinMap.{get}
 use Rattle.loc_outside.specs.Causes.{raised}
 use Rattle.loc_outside.specs.Trees.{Dir, Dirs, StatsAs}
 use Rattle.tree_scan.specs.Blocks.{time_of}
 use Rattle.tree_scan.specs.Plans.{plan_of}
-use Rattle.tree_scan.specs.Reach.{is_tried}
-use Rattle.tree_scan.specs.Records.{Relied, is_vouched}
-use Rattle.tree_scan.specs.Steps.{here}
-use Rattle.tree_scan.specs.Walks.{Breaks, NamesMore, opens}
+use Rattle.tree_scan.specs.Records.{Relied}
+use Rattle.tree_scan.specs.Walks.{Breaks}
 use Rattle.tree_scan.proofs.Pieces.{when_err}
-use Rattle.tree_scan.proofs.Told.{stat_found, stat_none, nothing_missing, nothing_pruned}
+use Rattle.tree_scan.proofs.Told.{stat_found, nothing_pruned}
 use Rattle.tree_scan.proofs.Visits.{passes_nothing, breaks_none, no_children, leaves_same, raised_nothing, here_once, opens_one, opens_none, stat_weight}
 use Rattle.tree_scan.proofs.walking.step.Goals as goal
 
@@ -99,3 +97,6 @@ returns-in_err-visit-clause-breaks g c =
     let unpruned : (plan_of c.args.rules.now).pruned c.args.path.now ≡ false = ap (plan_of c.args.rules.now).pruned (sym c.bytes.ensures.value) ∙ sym c.prunes.ensures ∙ c.if-prunes.false in
     c.in_err-visit.ensures.breaks dirs f.dir (g.met.T.Tree.keeps_dirs _ _ c.in-Ok.ensures.kept ∙ told) f.is (c.later-time.ensures ∙ ap time_of f.times_are) (relied f.dir f.is unpruned) in
     when_err _ _ p
+
+pub returns-in_default-clause-breaks : goal.returns-in_default-clause-breaks
+returns-in_default-clause-breaks g c = λ dirs told relied. breaks_none dirs (plan_of c.args.rules.now) c.args.now c.args.path.now _ _ _ _ refl refl
