@@ -2,11 +2,13 @@
 use Rattle.std.proofs.Common.{◌≡◌, ℕ, ◌^◌, ◌<◌, ◌≤◌, true, false, List, length, Some, None, Result, Ok, Err, rules, arith}
 use Rattle.std.specs.Char.{is_ascii_digit}
 use Rattle.std.specs.List.{list_all}
+use Rattle.std.specs.Prelude.{IfSome}
 use Rattle.std.specs.Str.Parse.{ParsesUnsigned, digits_value}
 use Rattle.std.proofs.lemmas.Bool.Decides.{nat_tests}
 use Rattle.std.proofs.lemmas.Result.{OkIff-at_err, OkIff-at_ok}
 use Rattle.std.proofs.lemmas.Str.Parse.{IsNumeralModel, numerals_by_value, parse_digits}
 use Rattle.tool_words.specs.Values.{number_up_to}
+use Rattle.updatedb_conf.specs.Value.{margin_word}
 
 own : IsNumeralModel (λ ds. list_all is_ascii_digit ds ≡ true) (digits_value 10)
 own = numerals_by_value _ (search rules)
@@ -48,3 +50,8 @@ unfolding number_up_to
 not_parsed word r e parses all err digits greatest fits =
     let never : (0 < length word) × (digits_value 10 word < 2 ^ 64) → ⊥ = OkIff-at_err r _ _ e (parse_digits own 64 word r parses all) err in
     grind (arith, nat_tests)
+
+-- a margin is at most an hour
+pub margin_word_within : (text : List ℕ) → IfSome (margin_word text) (λ seconds. seconds ≤ 3600)
+unfolding margin_word
+margin_word_within text = grind (arith, nat_tests)

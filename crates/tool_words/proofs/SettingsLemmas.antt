@@ -6,12 +6,13 @@ use Rattle.std.proofs.lemmas.Bool.Decides.{nat_tests}
 use Rattle.clap.specs.Words.{Row, Text}
 use Rattle.tool_words.specs.Lists.{FitsList, is_long}
 use Rattle.tool_words.specs.Matches.{value_of}
-use Rattle.tool_words.specs.Values.{is_normal_path, margin_word, read_by, switch_word, version_word}
+use Rattle.tool_words.specs.Values.{is_normal_path, read_by, version_word}
+use Rattle.updatedb_conf.specs.Value.{flag_word, margin_word}
 use Rattle.tool_words.specs.Updatedb.{breaks_rule, has_long_addition, has_long_list, has_slash_in_name, list_of, output_of, root_of, settings_of, settings_with}
 
 pub settings_of-read : (m : List Row) (visibility prune_bind_mounts : Option Bool) (version margin : Option ℕ)
-    → Some visibility ≡ read_by switch_word (value_of (codes "require-visibility") m)
-    → Some prune_bind_mounts ≡ read_by switch_word (value_of (codes "prune-bind-mounts") m)
+    → Some visibility ≡ read_by flag_word (value_of (codes "require-visibility") m)
+    → Some prune_bind_mounts ≡ read_by flag_word (value_of (codes "prune-bind-mounts") m)
     → Some version ≡ read_by version_word (value_of (codes "db-version") m)
     → Some margin ≡ read_by margin_word (value_of (codes "recent-margin") m)
     → breaks_rule m ≡ false → settings_of m ≡ Some (settings_with m visibility prune_bind_mounts version margin)

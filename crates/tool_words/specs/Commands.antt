@@ -25,6 +25,14 @@ short_option id letter = record (new_rule id) { short = slice_get letter 0; acti
 abbrev pub long_option : Text → Rule
 long_option name = record (new_rule name) { long = Some name; action = Some Set }
 
+-- the same, which must be given
+abbrev pub needed_option : Text → Rule
+needed_option name = record (long_option name) { required = true }
+
+-- one word that belongs to no flag or option, and must be given
+abbrev pub needed_word : Text → Rule
+needed_word id = record (new_rule id) { action = Some Set; required = true }
+
 -- the words that belong to no flag or option, any number of them
 abbrev pub words_left : Text → Rule
 words_left id = record (new_rule id) { action = Some Append }
@@ -77,3 +85,15 @@ locate_command = command (codes "locate") (
     ∷ option (codes "limit") (codes "l")
     ∷ short_option (codes "n") (codes "n")
     ∷ words_left (codes "PATTERN") ∷ [])
+
+unfoldable pub convert_command : App
+convert_command = command (codes "convert") (
+    long_option (codes "from")
+    ∷ needed_option (codes "to")
+    ∷ needed_word (codes "INPUT")
+    ∷ needed_word (codes "OUTPUT") ∷ [])
+
+unfoldable pub exercise_command : App
+exercise_command = command (codes "exercise") (
+    needed_word (codes "NUMBER")
+    ∷ needed_word (codes "ROUNDS") ∷ [])

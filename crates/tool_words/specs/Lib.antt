@@ -3,9 +3,14 @@ pub mod Matches
 pub mod Values
 pub mod Lists
 pub mod Tools
+pub mod Formats
 pub mod Locate
 pub mod LocateSeen
 pub mod Updatedb
 pub mod UpdatedbSeen
+pub mod Convert
+pub mod ConvertSeen
+pub mod Exercise
+pub mod ExerciseSeen
 pub mod Asked
 pub mod AskedSeen

@@ -3,7 +3,7 @@ use Rattle.std.specs.Prelude.{ℕ, Bool, List, [], ◌∷◌, ◌++◌, Option, 
 use Rattle.clap.specs.Words.{Row, Text}
 use Rattle.tool_words.specs.Commands.{locate_command}
 use Rattle.tool_words.specs.Matches.{asked_by, is_given, is_used, value_of, values_of}
-use Rattle.tool_words.specs.Values.{◌>>=◌, default_database, limit_word, names_in, read_by}
+use Rattle.tool_words.specs.Values.{◌>>=◌, default_database, number_word, names_in, read_by}
 
 pub record LocateAsked : Type 0 where
   -- a path is to match all patterns, not one of them
@@ -88,7 +88,7 @@ settings_with m databases limit = record {
 -- the settings, where the rules are kept
 unfoldable pub settings_of : List Row → List Text → Option LocateAsked
 settings_of m databases = do
-  limit ← read_by limit_word (limit_value m)
+  limit ← read_by number_word (limit_value m)
   if breaks_rule m databases then None else Some (settings_with m databases limit)
 
 -- what the words and LOCATE_PATH ask for; None is bad usage

@@ -3,8 +3,9 @@ use Rattle.std.specs.Prelude.{ℕ, Bool, true, List, [], Option, Some, None, cod
 use Rattle.clap.specs.Words.{Row, Text}
 use Rattle.tool_words.specs.Commands.{updatedb_command}
 use Rattle.tool_words.specs.Matches.{asked_by, is_used, value_of}
-use Rattle.tool_words.specs.Lists.{has_slash, is_long}
-use Rattle.tool_words.specs.Values.{◌>>=◌, default_database, is_normal_path, margin_word, read_by, switch_word, version_word}
+use Rattle.tool_words.specs.Lists.{is_long, some_word_has_slash}
+use Rattle.tool_words.specs.Values.{◌>>=◌, default_database, is_normal_path, read_by, version_word}
+use Rattle.updatedb_conf.specs.Value.{flag_word, margin_word}
 
 pub record UpdatedbAsked : Type 0 where
   -- the directory that is scanned
@@ -54,7 +55,7 @@ has_long_addition m = is_long (list_of (codes "add-prunefs") m)
 
 -- a word that is to be a name has a slash
 abbrev pub has_slash_in_name : List Row → Bool
-has_slash_in_name m = has_slash (list_of (codes "add-prunenames") m) || has_slash (list_of (codes "prunenames") m)
+has_slash_in_name m = some_word_has_slash (list_of (codes "add-prunenames") m) || some_word_has_slash (list_of (codes "prunenames") m)
 
 -- a rule is broken
 abbrev pub breaks_rule : List Row → Bool
@@ -81,8 +82,8 @@ settings_with m visibility prune_bind_mounts version margin = record {
 -- the settings, where the rules are kept
 unfoldable pub settings_of : List Row → Option UpdatedbAsked
 settings_of m = do
-  visibility ← read_by switch_word (value_of (codes "require-visibility") m)
-  prune_bind_mounts ← read_by switch_word (value_of (codes "prune-bind-mounts") m)
+  visibility ← read_by flag_word (value_of (codes "require-visibility") m)
+  prune_bind_mounts ← read_by flag_word (value_of (codes "prune-bind-mounts") m)
   version ← read_by version_word (value_of (codes "db-version") m)
   margin ← read_by margin_word (value_of (codes "recent-margin") m)
   if breaks_rule m then None else Some (settings_with m visibility prune_bind_mounts version margin)

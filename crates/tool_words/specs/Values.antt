@@ -1,5 +1,5 @@
 -- What single words mean.
-use Rattle.std.specs.Prelude.{ℕ, Bool, true, false, List, ◌∷◌, [], Option, Some, None, codes, length, map, nat_lt, nat_le, ◌==◌, ◌&&◌, ◌||◌, option_map, option_and_then, if◌then◌else◌}
+use Rattle.std.specs.Prelude.{ℕ, Bool, List, ◌∷◌, [], Option, Some, None, codes, length, map, nat_lt, nat_le, ◌==◌, ◌&&◌, option_map, option_and_then, if◌then◌else◌}
 use Rattle.std.specs.Char.{is_ascii_digit}
 use Rattle.std.specs.List.{list_all, slice_split}
 use Rattle.std.specs.Str.{bytes_eq}
@@ -28,25 +28,19 @@ is_number digits greatest word = nat_lt 0 (length word) && (nat_le (length word)
 unfoldable pub number_up_to : ℕ → ℕ → Text → Option ℕ
 number_up_to digits greatest word = if is_number digits greatest word then Some (digits_value 10 word) else None
 
--- a limit: 1 to 20 digits, below 2^64
-abbrev pub limit_word : Text → Option ℕ
-limit_word = number_up_to 20 18446744073709551615
+-- a number: 1 to 20 digits, below 2^64
+abbrev pub number_word : Text → Option ℕ
+number_word = number_up_to 20 18446744073709551615
 
--- a margin in seconds: 1 to 4 digits, of at most an hour
-abbrev pub margin_word : Text → Option ℕ
-margin_word = number_up_to 4 3600
+-- a number of rounds: 1 to 20 digits, at most 100
+abbrev pub rounds_word : Text → Option ℕ
+rounds_word = number_up_to 20 100
 
 -- a version of the database: `0` or `1`
 unfoldable pub version_word : Text → Option ℕ
 version_word word =
     if bytes_eq word (codes "0") then Some 0
     else (if bytes_eq word (codes "1") then Some 1 else None)
-
--- a switch: off by `0` or `no`, on by `1` or `yes`
-unfoldable pub switch_word : Text → Option Bool
-switch_word word =
-    if bytes_eq word (codes "0") || bytes_eq word (codes "no") then Some false
-    else (if bytes_eq word (codes "1") || bytes_eq word (codes "yes") then Some true else None)
 
 -- ---- texts
 

@@ -1,7 +1,7 @@
 //! The commands of the tools, made for clap.
 ghost use Rattle.std.specs.Prelude.{◌≡◌, ◌∷◌, [], IfOk};
 ghost use Rattle.clap.specs.Words.{app_of};
-ghost use Rattle.tool_words.specs.Commands.{bare, flag, locate_command as command_of_locate, long_option, option, short_flag, short_option, updatedb_command as command_of_updatedb, with_argument, words_left};
+ghost use Rattle.tool_words.specs.Commands.{bare, convert_command as command_of_convert, exercise_command as command_of_exercise, flag, locate_command as command_of_locate, long_option, needed_option, needed_word, option, short_flag, short_option, updatedb_command as command_of_updatedb, with_argument, words_left};
 
 use clap::{Arg, ArgAction, Command};
 use std::alloc::{AllocError, Global};
@@ -85,6 +85,33 @@ fn with_long_option<'a>(
 }
 
 #[tactic(auto, unfolding(crate::specs::Commands::with_argument))]
+fn with_needed_option<'a>(
+    alloc: Global,
+    command: Command<'a>,
+    name: &'a str,
+) -> Result<Command<'a>, AllocError>
+    ensures { IfOk result (λ r. app_of r ≡ with_argument (app_of command.entry) (needed_option name.entry.now)) }
+{
+    command.arg(
+        Arg::new(alloc, name)
+            .long(name)
+            .action(ArgAction::Set)
+            .required(true),
+    )
+}
+
+#[tactic(auto, unfolding(crate::specs::Commands::with_argument))]
+fn with_needed_word<'a>(
+    alloc: Global,
+    command: Command<'a>,
+    id: &'a str,
+) -> Result<Command<'a>, AllocError>
+    ensures { IfOk result (λ r. app_of r ≡ with_argument (app_of command.entry) (needed_word id.entry.now)) }
+{
+    command.arg(Arg::new(alloc, id).action(ArgAction::Set).required(true))
+}
+
+#[tactic(auto, unfolding(crate::specs::Commands::with_argument))]
 fn with_words_left<'a>(
     alloc: Global,
     command: Command<'a>,
@@ -139,5 +166,27 @@ pub(crate) fn locate_command<'a>(alloc: Global) -> Result<Command<'a>, AllocErro
     let command = with_option(alloc, command, "limit", 'l')?;
     let command = with_short_option(alloc, command, "n", 'n')?;
     let command = with_words_left(alloc, command, "PATTERN")?;
+    Ok(command)
+}
+
+#[tactic(auto, unfolding(crate::specs::Commands::convert_command))]
+pub(crate) fn convert_command<'a>(alloc: Global) -> Result<Command<'a>, AllocError>
+    ensures { IfOk result (λ c. app_of c ≡ command_of_convert) }
+{
+    let command = bare_command(alloc, "convert");
+    let command = with_long_option(alloc, command, "from")?;
+    let command = with_needed_option(alloc, command, "to")?;
+    let command = with_needed_word(alloc, command, "INPUT")?;
+    let command = with_needed_word(alloc, command, "OUTPUT")?;
+    Ok(command)
+}
+
+#[tactic(auto, unfolding(crate::specs::Commands::exercise_command))]
+pub(crate) fn exercise_command<'a>(alloc: Global) -> Result<Command<'a>, AllocError>
+    ensures { IfOk result (λ c. app_of c ≡ command_of_exercise) }
+{
+    let command = bare_command(alloc, "exercise");
+    let command = with_needed_word(alloc, command, "NUMBER")?;
+    let command = with_needed_word(alloc, command, "ROUNDS")?;
     Ok(command)
 }

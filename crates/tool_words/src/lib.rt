@@ -1,7 +1,10 @@
-//! The words of a command line, and what they ask of `updatedb` and `locate`.
+//! The words of a command line, and what they ask of a tool.
 #![tactic(auto)]
 
 mod commands;
+mod convert;
+mod exercise;
+mod format;
 mod locate;
 mod matches;
 mod request;
@@ -10,8 +13,12 @@ mod tool;
 mod updatedb;
 mod values;
 
+pub use format::Format;
 pub use request::{Request, WordsFault, read_words};
-pub use settings::{LocateSettings, MAX_DATABASES, MAX_LIST, UpdatedbSettings};
+pub use settings::{
+    ConvertSettings, ExerciseSettings, LocateSettings, MAX_DATABASES, MAX_LIST, MAX_ROUNDS,
+    UpdatedbSettings,
+};
 pub use tool::{Tool, speaker, tool_of};
 pub use values::DEFAULT_DATABASE;
 

@@ -1,14 +1,14 @@
 //! The words of `locate`.
 ghost use Rattle.std.specs.Prelude.{◌≡◌, ◌≤◌, IfOk, Option, Some, None, map, codes, option_map, string_bytes, vec_len};
 ghost use Rattle.tool_words.specs.Matches.{found_in, values_of as values_in};
-ghost use Rattle.tool_words.specs.Values.{limit_word as limit_of_word, read_by};
+ghost use Rattle.tool_words.specs.Values.{number_word as number_of_word, read_by};
 ghost use Rattle.tool_words.specs.Locate.{breaks_rule as rule_broken, databases_of as databases_by, given_names as names_given, has_conflict as conflicts, keeps_link as link_kept, limit_value as word_of_limit, locate_asked as asked_of_locate, path_names as names_of_path, settings_of as settings_by, settings_with as settings_by_parts};
 ghost use Rattle.tool_words.specs.LocateSeen.{seen};
 
 use crate::commands::locate_command;
 use crate::matches::{is_used, taken, value_of, values_of};
 use crate::settings::{LocateSettings, MAX_DATABASES};
-use crate::values::{DEFAULT_DATABASE, limit_word, names_in};
+use crate::values::{DEFAULT_DATABASE, names_in, number_word};
 use clap::ArgMatches;
 use std::alloc::{AllocError, Global};
 
@@ -54,11 +54,11 @@ fn limit_value<'a>(matches: &ArgMatches<'a>) -> Option<&'a str>
 
 /// The limit, if one is given, or None where its word is no number.
 fn read_limit(matches: &ArgMatches<'_>) -> Option<Option<u64>>
-    ensures { result ≡ read_by limit_of_word (word_of_limit (found_in matches.now)) }
+    ensures { result ≡ read_by number_of_word (word_of_limit (found_in matches.now)) }
 {
     match limit_value(matches) {
         None => Some(None),
-        Some(word) => match limit_word(word) {
+        Some(word) => match number_word(word) {
             Some(limit) => Some(Some(limit)),
             None => None,
         },

@@ -1,12 +1,16 @@
 //! What the words of a command line ask for.
 ghost use Rattle.std.specs.Prelude.{◌≡◌, IfOk, IsErrOf, Option, Some, None, map, option_map, string_bytes};
+ghost use Rattle.tool_words.specs.Convert.{convert_asked as asked_of_convert};
+ghost use Rattle.tool_words.specs.Exercise.{exercise_asked as asked_of_exercise};
 ghost use Rattle.tool_words.specs.Locate.{locate_asked as asked_of_locate};
 ghost use Rattle.tool_words.specs.Updatedb.{updatedb_asked as asked_of_updatedb};
-ghost use Rattle.tool_words.specs.Asked.{Locate, Updatedb, asked as asked_by_words};
+ghost use Rattle.tool_words.specs.Asked.{Convert, Exercise, Locate, Updatedb, asked as asked_by_words};
 ghost use Rattle.tool_words.specs.AskedSeen.{seen};
 
+use crate::convert::convert_asked;
+use crate::exercise::exercise_asked;
 use crate::locate::locate_asked;
-use crate::settings::{LocateSettings, UpdatedbSettings};
+use crate::settings::{ConvertSettings, ExerciseSettings, LocateSettings, UpdatedbSettings};
 use crate::tool::{Tool, tool_of};
 use crate::updatedb::updatedb_asked;
 use std::alloc::{AllocError, Global};
@@ -17,6 +21,8 @@ use thiserror::Error;
 pub enum Request<'a> {
     Updatedb(UpdatedbSettings<'a>),
     Locate(LocateSettings<'a>),
+    Convert(ConvertSettings<'a>),
+    Exercise(ExerciseSettings),
 }
 
 /// Why words ask for nothing.
@@ -58,6 +64,34 @@ fn updatedb_request<'a>(
     }
 }
 
+fn convert_request<'a>(
+    alloc: Global,
+    words: &'a [String],
+) -> Result<Option<Request<'a>>, AllocError>
+    ensures { IfOk result (λ o. option_map seen o ≡ option_map Convert
+        (asked_of_convert (map string_bytes words.entry.now))) }
+{
+    let found = convert_asked(alloc, words)?;
+    match found {
+        Some(settings) => Ok(Some(Request::Convert(settings))),
+        None => Ok(None),
+    }
+}
+
+fn exercise_request<'a>(
+    alloc: Global,
+    words: &'a [String],
+) -> Result<Option<Request<'a>>, AllocError>
+    ensures { IfOk result (λ o. option_map seen o ≡ option_map Exercise
+        (asked_of_exercise (map string_bytes words.entry.now))) }
+{
+    let found = exercise_asked(alloc, words)?;
+    match found {
+        Some(settings) => Ok(Some(Request::Exercise(settings))),
+        None => Ok(None),
+    }
+}
+
 #[tactic(auto, unfolding(crate::specs::Asked::asked))]
 fn asked<'a>(
     alloc: Global,
@@ -70,8 +104,8 @@ fn asked<'a>(
     match tool_of(words) {
         Some(Tool::Updatedb) => updatedb_request(alloc, words),
         Some(Tool::Locate) => locate_request(alloc, words, locate_path),
-        Some(Tool::Convert) => Ok(None),
-        Some(Tool::Exercise) => Ok(None),
+        Some(Tool::Convert) => convert_request(alloc, words),
+        Some(Tool::Exercise) => exercise_request(alloc, words),
         None => Ok(None),
     }
 }

@@ -4,6 +4,8 @@ ghost use Rattle.std.specs.Option.{ForSome};
 ghost use Rattle.path_order.specs.Path.{is_normal};
 ghost use Rattle.tool_words.specs.Lists.{FitsList};
 
+use crate::format::Format;
+
 /// The most bytes that a list of words has.
 pub const MAX_LIST: usize = 16_777_216;
 
@@ -78,4 +80,31 @@ pub struct LocateSettings<'a> {
     /// The patterns as they stand.
     pub patterns: Vec<&'a str>,
     pub ghost few: { vec_len databases ≤ 4096 },
+}
+
+/// What the words of `convert` ask for.
+#[derive(Clone, Copy, Debug, Drop)]
+pub struct ConvertSettings<'a> {
+    /// The format of the input. Where none is given, the input's own bytes tell which database it is.
+    pub from: Option<Format>,
+    /// The format of the output.
+    pub to: Format,
+    /// The name of the input, not empty.
+    pub input: &'a str,
+    /// The name of the output, not empty.
+    pub output: &'a str,
+    pub ghost named: { (0 < length input.now) × (0 < length output.now) },
+}
+
+/// The most rounds of `exercise`.
+pub const MAX_ROUNDS: u8 = 100;
+
+/// What the words of `exercise` ask for.
+#[derive(Clone, Copy, Debug, Drop)]
+pub struct ExerciseSettings {
+    /// What the generator begins with.
+    pub number: u64,
+    /// How many rounds are to be gone, at most 100.
+    pub rounds: u8,
+    pub ghost few: { rounds ≤ 100 },
 }

@@ -1,6 +1,7 @@
 //! Command lines, written with a space between the words.
+use crate::format::Format;
 use crate::request::{Request, WordsFault, read_words};
-use crate::settings::{LocateSettings, UpdatedbSettings};
+use crate::settings::{ConvertSettings, ExerciseSettings, LocateSettings, UpdatedbSettings};
 use crate::tool::{Tool, speaker, tool_of};
 use crate::values::DEFAULT_DATABASE;
 use std::alloc::{AllocError, Global};
@@ -34,15 +35,18 @@ fn refused_words_of_locate(rt: HostRuntime) -> Result<(), AllocError> {
         "locate -b -w a",
         "locate -bw a",
         "locate -L -P a",
+        "locate -LP a",
         "locate -LH a",
         "locate -l 1 -n 1 a",
         "locate -l 1 --limit 1 a",
+        "locate -n 1 -n 1 a",
         "locate -d x -d y a",
         "locate --limit= a",
         "locate -l +5 a",
         "locate -l -1 a",
         "locate -l 18446744073709551616 a",
         "locate -l 000000000000000000000 a",
+        "locate -l 184467440737095516150 a",
         "locate -n 1x a",
         "locate --all=x a",
         "locate --data x a",
@@ -73,6 +77,7 @@ fn accepted_words_of_locate(rt: HostRuntime) -> Result<(), AllocError> {
         "locate -cid db a",
         "locate a -b c",
         "locate -- -b",
+        "locate -l 0 a",
         "locate -l 000 a",
         "locate -l 00000000000000000001 a",
         "locate -n18446744073709551615 a",
@@ -91,6 +96,7 @@ fn accepted_words_of_locate(rt: HostRuntime) -> Result<(), AllocError> {
 fn refused_words_of_updatedb(rt: HostRuntime) -> Result<(), AllocError> {
     for line in [
         "updatedb x",
+        "updatedb -U a",
         "updatedb -U a -o /db",
         "updatedb -U ",
         "updatedb -U //",
@@ -186,6 +192,13 @@ fn settings_of_locate(rt: HostRuntime) -> Result<(), AllocError> {
     ];
     assert!(rt; s.databases.as_slice() == names.as_slice());
     assert!(rt; s.patterns.as_slice() == ["a", "B"].as_slice());
+    let words = words_of(rt.alloc(), "locate -n 18446744073709551615 -d - -- -b")?;
+    let Some(s) = locate(rt.alloc(), words.as_slice(), Some(":")) else {
+        panic!(rt; "refused");
+    };
+    assert_eq!(rt; s.limit, Some(18446744073709551615));
+    assert!(rt; s.databases.as_slice() == ["-", DEFAULT_DATABASE, DEFAULT_DATABASE].as_slice());
+    assert!(rt; s.patterns.as_slice() == ["-b"].as_slice());
     let words = words_of(rt.alloc(), "locate -Leb a")?;
     let Some(s) = locate(rt.alloc(), words.as_slice(), Some("")) else {
         panic!(rt; "refused");
@@ -253,9 +266,141 @@ fn most_databases(rt: HostRuntime) -> Result<(), AllocError> {
     let colons = repeated(rt.alloc(), ":", 4095)?;
     let mut words = words_of(rt.alloc(), "locate a -d")?;
     words.push(colons)?;
-    assert!(rt; locate(rt.alloc(), words.as_slice(), Some("")).is_some());
+    let Some(s) = locate(rt.alloc(), words.as_slice(), Some("")) else {
+        panic!(rt; "refused");
+    };
+    assert_eq!(rt; s.databases.len(), 4096);
     let answer = read_words(rt.alloc(), words.as_slice(), Some("x"));
     assert!(rt; matches!(answer, Err(WordsFault::Usage)));
+    let mut words = words_of(rt.alloc(), "locate a -d")?;
+    words.push(repeated(rt.alloc(), ":", 4096)?)?;
+    let answer = read_words(rt.alloc(), words.as_slice(), None);
+    assert!(rt; matches!(answer, Err(WordsFault::Usage)));
+    Ok(())
+}
+
+#[test]
+fn default_databases(rt: HostRuntime) -> Result<(), AllocError> {
+    let words = words_of(rt.alloc(), "locate a -d ::")?;
+    let Some(s) = locate(rt.alloc(), words.as_slice(), None) else {
+        panic!(rt; "refused");
+    };
+    let three = [DEFAULT_DATABASE, DEFAULT_DATABASE, DEFAULT_DATABASE];
+    assert!(rt; s.databases.as_slice() == three.as_slice());
+    Ok(())
+}
+
+#[test]
+fn longest_root(rt: HostRuntime) -> Result<(), AllocError> {
+    let mut root = repeated(rt.alloc(), "/aaaaaaa", 512)?;
+    for beyond in [false, true] {
+        let mut words = words_of(rt.alloc(), "updatedb -U")?;
+        words.push(root.clone()?)?;
+        let answer = read_words(rt.alloc(), words.as_slice(), None);
+        assert_eq!(rt; matches!(answer, Err(WordsFault::Usage)), beyond);
+        assert_eq!(rt; answer.is_ok(), !beyond);
+        root.push('a')?;
+    }
+    Ok(())
+}
+
+#[test]
+fn refused_words_of_convert_and_exercise(rt: HostRuntime) -> Result<(), AllocError> {
+    for line in [
+        "convert",
+        "convert a b",
+        "convert --from list a b",
+        "convert --to list",
+        "convert --to list a",
+        "convert --to list a b c",
+        "convert --to list  b",
+        "convert --to list a ",
+        "convert --to List a b",
+        "convert --to lists a b",
+        "convert --to= a b",
+        "convert --to list --from a b",
+        "convert --to list --from= a b",
+        "convert --to list --from tar a b",
+        "convert --to list --to list a b",
+        "convert --to list --from list0 --from list0 a b",
+        "convert -t list a b",
+        "convert --to list --help a b",
+        "exercise",
+        "exercise 1",
+        "exercise 1 1 1",
+        "exercise  1",
+        "exercise 1 ",
+        "exercise 1 101",
+        "exercise 1 -1",
+        "exercise +1 1",
+        "exercise 1x 1",
+        "exercise 18446744073709551616 1",
+        "exercise 000000000000000000001 1",
+        "exercise 1 000000000000000000001",
+        "exercise --help",
+    ] {
+        assert!(rt; is_usage(rt.alloc(), line)?, "{line}");
+    }
+    Ok(())
+}
+
+fn convert<'a>(alloc: Global, words: &'a [String]) -> Option<ConvertSettings<'a>> {
+    match read_words(alloc, words, None) {
+        Ok(Request::Convert(settings)) => Some(settings),
+        _ => None,
+    }
+}
+
+fn exercise(alloc: Global, words: &[String]) -> Option<ExerciseSettings> {
+    match read_words(alloc, words, None) {
+        Ok(Request::Exercise(settings)) => Some(settings),
+        _ => None,
+    }
+}
+
+#[test]
+fn settings_of_convert(rt: HostRuntime) -> Result<(), AllocError> {
+    for (line, to) in [
+        ("convert --to mlocate in out", Format::Mlocate),
+        ("convert --to=locate02 in out", Format::Locate02),
+        ("convert in --to bigram out", Format::Bigram),
+        ("convert in out --to list", Format::List),
+        ("convert --to list0 -- in out", Format::List0),
+    ] {
+        let words = words_of(rt.alloc(), line)?;
+        let Some(s) = convert(rt.alloc(), words.as_slice()) else {
+            panic!(rt; "refused");
+        };
+        assert!(rt; s.to == to && s.from.is_none() && s.input == "in" && s.output == "out");
+    }
+    let words = words_of(rt.alloc(), "convert - --from list0 -- --to --to mlocate")?;
+    assert!(rt; convert(rt.alloc(), words.as_slice()).is_none());
+    let words = words_of(rt.alloc(), "convert --to mlocate - --from list0 -- --to")?;
+    let Some(s) = convert(rt.alloc(), words.as_slice()) else {
+        panic!(rt; "refused");
+    };
+    assert!(rt; s.to == Format::Mlocate && s.from == Some(Format::List0));
+    assert!(rt; s.input == "-" && s.output == "--to");
+    Ok(())
+}
+
+#[test]
+fn settings_of_exercise(rt: HostRuntime) -> Result<(), AllocError> {
+    for (line, number, rounds) in [
+        ("exercise 0 0", 0, 0),
+        (
+            "exercise 18446744073709551615 100",
+            18446744073709551615,
+            100,
+        ),
+        ("exercise -- 007 00000000000000000007", 7, 7),
+    ] {
+        let words = words_of(rt.alloc(), line)?;
+        let Some(s) = exercise(rt.alloc(), words.as_slice()) else {
+            panic!(rt; "refused");
+        };
+        assert_eq!(rt; (s.number, s.rounds), (number, rounds));
+    }
     Ok(())
 }
 

@@ -3,25 +3,25 @@ ghost use Rattle.std.specs.Prelude.{◌≡◌, ◌<◌, ◌≤◌, false, IfOk, 
 ghost use Rattle.std.specs.Option.{ForSome};
 ghost use Rattle.tool_words.specs.Matches.{found_in, value_of as value_in};
 ghost use Rattle.tool_words.specs.Lists.{is_long as too_long};
-ghost use Rattle.tool_words.specs.Values.{margin_word as margin_of_word, read_by, switch_word as switch_of_word, version_word as version_of_word};
+ghost use Rattle.tool_words.specs.Values.{read_by, version_word as version_of_word};
+ghost use Rattle.updatedb_conf.specs.Value.{flag_word as flag_of_word, margin_word as margin_of_word};
 ghost use Rattle.tool_words.specs.Updatedb.{breaks_rule as rule_broken, has_long_addition as some_addition_is_long, has_long_list as some_list_is_long, has_slash_in_name as some_name_has_slash, list_of as list_in, output_of as output_in, root_of as root_in, settings_of as settings_by, settings_with as settings_by_parts, updatedb_asked as asked_of_updatedb};
 ghost use Rattle.tool_words.specs.UpdatedbSeen.{seen};
 
 use crate::commands::updatedb_command;
 use crate::matches::{is_used, taken, value_of};
 use crate::settings::{MAX_LIST, UpdatedbSettings};
-use crate::values::{
-    DEFAULT_DATABASE, has_slash, is_normal_path, margin_word, switch_word, version_word,
-};
+use crate::values::{DEFAULT_DATABASE, has_slash, is_normal_path, margin_of, version_word};
 use clap::ArgMatches;
 use std::alloc::{AllocError, Global};
+use updatedb_conf::flag_word;
 
 fn read_switch(matches: &ArgMatches<'_>, id: &str) -> Option<Option<bool>>
-    ensures { result ≡ read_by switch_of_word (value_in id.now (found_in matches.now)) }
+    ensures { result ≡ read_by flag_of_word (value_in id.now (found_in matches.now)) }
 {
     match value_of(matches, id) {
         None => Some(None),
-        Some(word) => match switch_word(word) {
+        Some(word) => match flag_word(word.as_bytes()) {
             Some(switch) => Some(Some(switch)),
             None => None,
         },
@@ -47,7 +47,7 @@ fn read_margin(matches: &ArgMatches<'_>) -> Option<Option<u16>>
 {
     match value_of(matches, "recent-margin") {
         None => Some(None),
-        Some(word) => match margin_word(word) {
+        Some(word) => match margin_of(word) {
             Some(margin) => Some(Some(margin)),
             None => None,
         },

@@ -2,11 +2,13 @@
 ghost use Rattle.std.specs.Prelude.{◌≡◌, ◌<◌, ◌≤◌, IfOk, IfSome, map};
 ghost use Rattle.std.specs.Char.{is_ascii_digit};
 ghost use Rattle.std.specs.List.{list_all};
-ghost use Rattle.tool_words.specs.Lists.{has_slash as some_word_has_slash};
-ghost use Rattle.tool_words.specs.Values.{is_normal_path as is_normal_text, limit_word as limit_of, margin_word as margin_of, names_in as names_of, number_up_to as number_of, or_default as name_or_default, switch_word as switch_of, version_word as version_of};
+ghost use Rattle.updatedb_conf.specs.Value.{margin_word as margin_of_word};
+ghost use Rattle.tool_words.specs.Lists.{some_word_has_slash};
+ghost use Rattle.tool_words.specs.Values.{is_normal_path as is_normal_text, number_word as number_of_word, names_in as names_of, number_up_to as number_of, or_default as name_or_default, rounds_word as rounds_of, version_word as version_of};
 
 use path_order::is_normal;
 use std::alloc::{AllocError, Global};
+use updatedb_conf::margin_word;
 
 /// The database that is written and searched where no other is named.
 pub const DEFAULT_DATABASE: &str = "/var/lib/mlocate/mlocate.db";
@@ -37,22 +39,31 @@ fn number_up_to(word: &str, digits: usize, greatest: u64) -> Option<u64>
     Some(number)
 }
 
-/// A limit: 1 to 20 decimal digits, below 2^64.
-pub(crate) fn limit_word(word: &str) -> Option<u64>
-    ensures { result ≡ limit_of word.now }
+/// A number: 1 to 20 decimal digits, below 2^64.
+pub(crate) fn number_word(word: &str) -> Option<u64>
+    ensures { result ≡ number_of_word word.now }
 {
     number_up_to(word, 20, u64::MAX)
 }
 
-/// A recency margin in seconds: 1 to 4 decimal digits, at most 3,600.
-pub(crate) fn margin_word(word: &str) -> Option<u16>
-    ensures value { result ≡ margin_of word.now }
-    ensures within { IfSome result (λ seconds. seconds ≤ 3600) }
+/// A number of rounds: 1 to 20 decimal digits, at most 100.
+pub(crate) fn rounds_word(word: &str) -> Option<u8>
+    ensures value { result ≡ rounds_of word.now }
+    ensures within { IfSome result (λ rounds. rounds ≤ 100) }
 {
-    match number_up_to(word, 4, 3600) {
-        Some(margin) => Some(margin as u16),
+    match number_up_to(word, 20, 100) {
+        Some(rounds) => Some(rounds as u8),
         None => None,
     }
+}
+
+/// A recency margin in seconds, as updatedb.conf has it: at most an hour.
+#[tactic(auto, using(crate::proofs::NumberLemmas::margin_word_within))]
+pub(crate) fn margin_of(word: &str) -> Option<u16>
+    ensures value { result ≡ margin_of_word word.now }
+    ensures within { IfSome result (λ seconds. seconds ≤ 3600) }
+{
+    margin_word(word.as_bytes())
 }
 
 /// A version of the database: `0` or `1`.
@@ -66,20 +77,6 @@ pub(crate) fn version_word(word: &str) -> Option<u8>
         "1" => Some(1),
         _ => None,
     }
-}
-
-/// A switch: off by `0` or `no`, on by `1` or `yes`.
-#[tactic(auto, unfolding(crate::specs::Values::switch_word))]
-pub(crate) fn switch_word(word: &str) -> Option<bool>
-    ensures { result ≡ switch_of word.now }
-{
-    if word == "0" || word == "no" {
-        return Some(false);
-    }
-    if word == "1" || word == "yes" {
-        return Some(true);
-    }
-    None
 }
 
 #[tactic(auto, unfolding(crate::specs::Values::is_normal_path))]

@@ -1,0 +1,10 @@
+use Rattle.tool_words.specs.Commands.{convert_command}
+use Rattle.tool_words.proofs.CommandLemmas.{step}
+use Rattle.tool_words.proofs.commands.convert_command.Goals as goal
+
+pub returns : goal.returns
+unfolding convert_command
+returns c = step _ _ _ _ c.in_ok-command-4.ensures
+    (step _ _ _ _ c.in_ok-command-3.ensures
+    (step _ _ _ _ c.in_ok-command-2.ensures
+    (step _ _ _ _ c.in_ok-command.ensures (c.bare_command-command.ensures))))

@@ -1,5 +1,0 @@
-use Rattle.std.proofs.Common.{◌≤◌, arith}
-use Rattle.tool_words.proofs.values.margin_word.Goals as goal
-
-pub overflow_cast-result : goal.overflow_cast-result
-overflow_cast-result c = let small : c.in-Some.margin ≤ 3600 = c.in-Some.ensures.within in omega arith
