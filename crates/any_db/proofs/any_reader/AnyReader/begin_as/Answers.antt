@@ -1,0 +1,37 @@
+use Rattle.any_db.proofs.any_reader.AnyReader.begin_as.Goals as goal
+
+pub returns-in-Mlocate-clause-begun : goal.returns-in-Mlocate-clause-begun
+returns-in-Mlocate-clause-begun g c = rw c.in-Mlocate.is (rw c.on-reader.ensures at c.begin_paths-begun.ensures.begun)
+
+pub returns-in-Mlocate-clause-ok : goal.returns-in-Mlocate-clause-ok
+returns-in-Mlocate-clause-ok g c = rw c.in-Mlocate.is (rw c.on-reader.ensures at c.begin_paths-begun.ensures.ok)
+
+pub returns-in-Mlocate-clause-refused : goal.returns-in-Mlocate-clause-refused
+returns-in-Mlocate-clause-refused g c = rw c.in-Mlocate.is (rw c.on-reader.ensures at c.begin_paths-begun.ensures.refused)
+
+pub returns-in-Mlocate-clause-err : goal.returns-in-Mlocate-clause-err
+returns-in-Mlocate-clause-err g c = rw c.in-Mlocate.is (rw c.on-reader.ensures at c.begin_paths-begun.ensures.err)
+
+pub returns-in-Locate02-clause-begun : goal.returns-in-Locate02-clause-begun
+returns-in-Locate02-clause-begun g c = rw c.in-Locate02.is (rw c.on-reader-in-Locate02.ensures at c.begin_paths-begun-in-Locate02.ensures.begun)
+
+pub returns-in-Locate02-clause-ok : goal.returns-in-Locate02-clause-ok
+returns-in-Locate02-clause-ok g c = rw c.in-Locate02.is (rw c.on-reader-in-Locate02.ensures at c.begin_paths-begun-in-Locate02.ensures.ok)
+
+pub returns-in-Locate02-clause-refused : goal.returns-in-Locate02-clause-refused
+returns-in-Locate02-clause-refused g c = rw c.in-Locate02.is (rw c.on-reader-in-Locate02.ensures at c.begin_paths-begun-in-Locate02.ensures.refused)
+
+pub returns-in-Locate02-clause-err : goal.returns-in-Locate02-clause-err
+returns-in-Locate02-clause-err g c = rw c.in-Locate02.is (rw c.on-reader-in-Locate02.ensures at c.begin_paths-begun-in-Locate02.ensures.err)
+
+pub returns-in-Bigram-clause-begun : goal.returns-in-Bigram-clause-begun
+returns-in-Bigram-clause-begun g c = rw c.in-Bigram.is (rw c.on-reader-in-Bigram.ensures at c.begin_paths-begun-in-Bigram.ensures.begun)
+
+pub returns-in-Bigram-clause-ok : goal.returns-in-Bigram-clause-ok
+returns-in-Bigram-clause-ok g c = rw c.in-Bigram.is (rw c.on-reader-in-Bigram.ensures at c.begin_paths-begun-in-Bigram.ensures.ok)
+
+pub returns-in-Bigram-clause-refused : goal.returns-in-Bigram-clause-refused
+returns-in-Bigram-clause-refused g c = rw c.in-Bigram.is (rw c.on-reader-in-Bigram.ensures at c.begin_paths-begun-in-Bigram.ensures.refused)
+
+pub returns-in-Bigram-clause-err : goal.returns-in-Bigram-clause-err
+returns-in-Bigram-clause-err g c = rw c.in-Bigram.is (rw c.on-reader-in-Bigram.ensures at c.begin_paths-begun-in-Bigram.ensures.err)

@@ -1,0 +1,26 @@
+use Rattle.std.proofs.Common.{ap}
+use Rattle.byte_feed.proofs.Draws.{draws_then}
+use Rattle.any_db.specs.Formats.{beginning}
+use Rattle.any_db.specs.Reader.{feed_of}
+use Rattle.any_db.proofs.Begun.{fresh_is, told_behind, begun_behind, paths_behind, unbegun_behind, ended_behind}
+use Rattle.any_db.proofs.any_reader.AnyReaderPathStream.begin_paths.Goals as goal
+
+pub returns-clause-told : goal.returns-clause-told
+returns-clause-told g c = told_behind _ _ c.in-Ok.format _ c.requires c.begin_as.ensures.told (rw c.new-feed.ensures at c.in-Ok.ensures.told)
+
+pub returns-clause-begun : goal.returns-clause-begun
+returns-clause-begun g c = begun_behind _ beginning _ _ _ _ _ _ _ c.requires (rw c.new-feed.ensures at c.in-Ok.ensures.first) c.begin_as.ensures.begun
+
+pub returns-clause-ok : goal.returns-clause-ok
+returns-clause-ok g c = paths_behind _ _ _ _ _ _ _ _ _ c.requires (rw c.new-feed.ensures at c.in-Ok.ensures.rest) c.begin_as.ensures.ok
+
+pub returns-clause-refused : goal.returns-clause-refused
+returns-clause-refused g c = unbegun_behind _ beginning _ _ _ _ _ _ _ _ c.requires (rw c.new-feed.ensures at c.in-Ok.ensures.first) c.begin_as.ensures.err c.begin_as.ensures.refused
+
+pub returns-clause-err : goal.returns-clause-err
+returns-clause-err g c = ended_behind _ _ _ _ _ _ _ _ c.requires (rw c.new-feed.ensures at c.in-Ok.ensures.rest) c.begin_as.ensures.err
+
+pub returns-clause-drawn : goal.returns-clause-drawn
+returns-clause-drawn g c =
+    let fresh = ap feed_of (fresh_is _ c.requires) in
+    rw fresh (draws_then _ _ _ _ _ _ _ _ _ (rw c.new-feed.ensures at c.in-Ok.ensures.drawn) c.begin_as.ensures.drawn)

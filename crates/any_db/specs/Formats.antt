@@ -1,0 +1,69 @@
+-- The formats of databases, told apart by the bytes that a file begins with, and what a file of any of them gives.
+use Rattle.std.specs.Prelude.{◌≡◌, ℕ, ◌<◌, Bool, true, false, List, take, Option, Some, None, nat_eq, if◌then◌else◌}
+use Rattle.std.specs.List.{starts_with}
+use Rattle.byte_feed.specs.Front.{Format, Window, limit, readable}
+use Rattle.byte_feed.specs.Paths.{PathAt, ToCome, to_come, beginning_of}
+use Rattle.mlocate_db.specs.Items.{mlocate, magic as mlocate_magic}
+use Rattle.locate02_db.specs.Items.{locate02, magic as locate02_magic}
+use Rattle.bigram_db.specs.Items.{bigram}
+use Rattle.any_db.specs.declared.format.DatabaseFormat.{DatabaseFormat}
+use Rattle.any_db.specs.declared.format.DatabaseFormat.TheVariants.{Mlocate, Locate02, Bigram}
+
+-- A file that begins as those of mlocate do is read as one of them, and so is a file that begins as those of LOCATE02
+-- do. Every other file is read as a bigram database, and is none where its table is not whole.
+unfoldable pub format_of : List ℕ → DatabaseFormat
+format_of bytes =
+    if starts_with nat_eq bytes mlocate_magic then Mlocate else
+    if starts_with nat_eq bytes locate02_magic then Locate02 else
+    Bigram
+
+-- what the items of a format are
+abbrev pub items_in : DatabaseFormat → Format
+items_in Mlocate = mlocate
+items_in Locate02 = locate02
+items_in Bigram = bigram
+
+-- all that a file gives, read in this format, and its first item
+abbrev pub rest_by : DatabaseFormat → Window → ToCome
+rest_by format w = to_come (items_in format) (items_in format).begin 0 0 w
+
+abbrev pub beginning_by : DatabaseFormat → Window → Option (ℕ × Bool)
+beginning_by format w = beginning_of (items_in format) w
+
+-- the same in the format that its first bytes tell
+unfoldable pub rest_in : Window → ToCome
+rest_in w = rest_by (format_of w.bytes) w
+
+unfoldable pub beginning : Window → Option (ℕ × Bool)
+beginning w = beginning_by (format_of w.bytes) w
+
+-- ---- a whole file
+
+-- all that a file gives
+abbrev pub contents : List ℕ → ToCome
+contents file = rest_in (readable file)
+
+-- the same of its first n bytes alone, which do not end it
+abbrev pub contents_of_part : ℕ → List ℕ → ToCome
+contents_of_part n file = rest_in (record { bytes = take limit (take n file); more = true })
+
+-- whether a first item that is whole asks for visible paths alone
+abbrev pub asks_gate : Option (ℕ × Bool) → Bool
+asks_gate None = false
+asks_gate (Some first) = first.1
+
+-- whether a file's header is whole and asks for visible paths alone, as only those of mlocate can
+abbrev pub is_gated : List ℕ → Bool
+is_gated file = asks_gate (beginning (readable file))
+
+-- ---- the paths of a directory
+
+-- the path of a path's directory
+abbrev pub directory_of : PathAt → List ℕ
+directory_of p = take p.dir_len p.text
+
+-- how many directory heads can stand before a path: one at least, or none where the format has none
+abbrev pub HasHeads : DatabaseFormat → ℕ → Type 0
+HasHeads Mlocate heads = 0 < heads
+HasHeads Locate02 heads = heads ≡ 0
+HasHeads Bigram heads = heads ≡ 0

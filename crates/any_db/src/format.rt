@@ -1,0 +1,59 @@
+//! The formats of databases, told apart by their first bytes.
+ghost use Rattle.std.specs.Prelude.{◌≡◌, ◌≤◌, ◌^◌, length, Ok, Err, OnOk, OnErr, IfOk};
+ghost use Rattle.loc_outside.specs.Causes.{Rose};
+ghost use Rattle.byte_feed.specs.Feed.{Draws, empty_at, reach};
+ghost use Rattle.byte_feed.specs.Paths.{MovedKnown, EndsKnown, UnbegunKnown, no_paths};
+ghost use Rattle.byte_feed.specs.declared.damage.DbFault.TheVariants.{ReadFault};
+ghost use Rattle.any_db.specs.Formats.{beginning, beginning_by, format_of, rest_by, rest_in};
+ghost use Rattle.any_db.specs.Reader.{ToldKnown};
+
+use byte_feed::Feed;
+use loc_outside::{Failed, Source};
+
+/// The format of a database.
+#[derive(Clone, Copy, Debug, PartialEq, Eq)]
+pub enum DatabaseFormat {
+    /// That of mlocate, as mlocate.db(5) describes it.
+    Mlocate,
+    /// The newer one of GNU findutils, as locatedb(5) describes it.
+    Locate02,
+    /// The older one, of BSD's locate.
+    Bigram,
+}
+
+/// The format that is told by these bytes, of which the first ten decide.
+#[tactic(auto, unfolding(crate::specs::Formats::format_of))]
+fn told_by(bytes: &[u8]) -> DatabaseFormat
+    ensures { result ≡ format_of bytes.now }
+{
+    if bytes.starts_with(b"\0mlocate") {
+        return DatabaseFormat::Mlocate;
+    }
+    if bytes.starts_with(b"\0LOCATE02\0") {
+        return DatabaseFormat::Locate02;
+    }
+    DatabaseFormat::Bigram
+}
+
+/// Looks at the first ten bytes of a file, and tells its format by them. They stay ahead in the feed.
+#[inline(never)]
+pub(crate) fn look_format<S: Source>(feed: &mut Feed, src: &mut S) -> Result<DatabaseFormat, Failed>
+    requires { feed.old ≡ empty_at 0 }
+    ensures told { IfOk result (λ d. ToldKnown feed.old (S.left src.old) d) }
+    ensures rest { IfOk result (λ d. MovedKnown rest_in (rest_by d) (λ t. t) feed.old (S.left src.old) feed.new (S.left src.new)) }
+    ensures first { IfOk result (λ d. MovedKnown beginning (beginning_by d) (λ b. b) feed.old (S.left src.old) feed.new (S.left src.new)) }
+    ensures none { OnErr result (EndsKnown rest_in (no_paths 0 0) feed.old (S.left src.old) (S.left src.new) (Err ReadFault)) }
+    ensures unbegun { OnErr result (UnbegunKnown beginning feed.old (S.left src.old) (S.left src.new) ReadFault) }
+    ensures offset { feed.new.offset ≡ 0 }
+    ensures drawn { Draws feed.old feed.new (S.given src.old) (S.given src.new) (S.left src.old) (S.left src.new) }
+    ensures held { length feed.new.held ≤ 4096 }
+    ensures reach { reach feed.new ≤ 2 ^ 40 }
+    ensures fault { OnErr result (Rose (S.faults src.old) (S.faults src.new)) }
+    ensures later { S.faults src.old ≤ S.faults src.new }
+    ensures kept { S.kept src.old src.new }
+{
+    let Ok(count) = feed.look(src, 10) else {
+        return Err(Failed);
+    };
+    Ok(told_by(feed.ahead(count)))
+}

@@ -1,0 +1,12 @@
+//! The paths of a database of any of the three formats, which is told from the bytes that it begins with.
+#![tactic(auto)]
+
+mod any_reader;
+mod format;
+mod laws;
+#[cfg(test)]
+mod tests;
+
+pub use any_reader::AnyReader;
+pub use format::DatabaseFormat;
+pub use laws::{heads_rise, one_directory_a_block};
