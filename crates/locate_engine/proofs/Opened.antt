@@ -1,46 +1,36 @@
 -- A search of a file that was just opened.
-use Rattle.std.proofs.Common.{IsTrue, ◌≡◌, ℕ, ◌+◌, ◌-◌, ◌^◌, ◌≤◌, Bool, true, false, cond, List, [], length, take, drop, Option, Some, None, Err, IfSome, refl, sym, ap, subst, ◌∙◌, length-drop, arith}
-use Rattle.std.proofs.KnownBytes.{Appends-nil}
+use Rattle.std.proofs.Common.{◌≡◌, ℕ, ◌+◌, ◌-◌, ◌^◌, ◌≤◌, ◌<◌, Bool, true, false, cond, ◌||◌, List, [], length, take, drop, Option, Some, None, Ok, Err, IfSome, refl, sym, ap, subst, ◌∙◌, length-drop, arith}
 use Rattle.std.proofs.Math.Seq.{take-nil}
 use Rattle.std.specs.Prelude.{nat_le}
 use Rattle.std.specs.FinMap as map
 use Rattle.loc_outside.specs.Files.{Files}
 use Rattle.loc_outside.specs.Causes.{raised}
+use Rattle.loc_outside.specs.Gates.{Tests}
+use Rattle.loc_outside.specs.Outside.{OpensAs}
+use Rattle.loc_outside.specs.declared.traits.Opened.{Opened}
+use Rattle.loc_outside.specs.declared.traits.Opened.TheVariants.{Found}
 use Rattle.byte_feed.specs.declared.damage.DbFault.{DbFault}
 use Rattle.byte_feed.specs.declared.damage.DbFault.TheVariants as faults
 use Rattle.byte_feed.specs.Front.{Window, limit, readable, items_of, items_within}
 use Rattle.byte_feed.specs.Feed.{FeedState, empty_at, window, so_far, reach, Draws}
-use Rattle.byte_feed.specs.Paths.{ToCome, Moved, MovedKnown, EndsKnown, BeginsKnown, UnbegunKnown, no_paths, beginning_of, to_come, rest_of, contents, contents_of_part}
-use Rattle.byte_feed.proofs.Rests.{moved_none}
+use Rattle.byte_feed.specs.Paths.{ToCome, Moved, MovedKnown, EndsKnown, BeginsKnown, no_paths, rest_of}
 use Rattle.byte_feed.proofs.Draws.{draws_then}
-use Rattle.mlocate_db.specs.Items.{mlocate}
-use Rattle.mlocate_db.specs.Reader.{ReaderState, fresh_on, paths_left}
-use Rattle.locate_engine.specs.Searched.{ends_itself, is_write_fault, Searches, SearchesKnown, seen_of, outcome_of, is_read_fault}
-use Rattle.locate_engine.specs.Files.{flag_in, shown_in, paths_in, seen_in}
+use Rattle.byte_feed.proofs.Rests.{moved_none}
+use Rattle.any_db.specs.Formats.{format_of, rest_in, beginning, asks_gate, is_gated, contents, contents_of_part}
+use Rattle.any_db.specs.Reader.{fresh, feed_of, paths_left}
+use Rattle.any_db.specs.declared.any_reader.AnyReader.{AnyReader}
+use Rattle.any_db.proofs.Blocks.{one_directory_a_block}
+use Rattle.locate_engine.specs.Passing.{Rule, rule_of, tests_asked, OneDirectory}
+use Rattle.locate_engine.specs.Searched.{Stand, Progress, gone_through, outcome_of, is_read_fault, ComesToEnd, StopsAs, Searches, SearchesWhole, SearchesKnown, EndsWithin, EndsWithinKnown, is_by_end, OneDirectoryLeft, seen_of}
+use Rattle.locate_engine.specs.Files.{seen_in, SearchesFile, SearchesAll}
+use Rattle.locate_engine.specs.declared.query.Query.{Query}
 use Rattle.locate_engine.specs.declared.outcome.Outcome.{Outcome}
 use Rattle.locate_engine.specs.declared.outcome.Outcome.TheVariants as outcomes
-use Rattle.locate_engine.proofs.Lines.{searches_end, all_given, not_itself}
+use Rattle.locate_engine.proofs.Gone.{went_none}
+use Rattle.locate_engine.proofs.Exits.{all_given, ended_end, ended_later, on_off}
+use Rattle.locate_engine.proofs.Whole.{searches_whole}
 
--- ---- a search by a stream that has moved on
-
-seen_by : (b : Bool) (t t' : Window → ToCome) (f f' : FeedState) (l l' : List ℕ) (n : ℕ) → Moved t t' (λ x. x) f l f' l' → (b ≡ true → f'.ended ≡ false) → n ≤ length l'
-    → t' (cond b (so_far f' l' n) (window f' l')) ≡ t (cond b (so_far f l n) (window f l))
-seen_by true t t' f f' l l' n moved on fewer = sym (moved.parts (on refl) n fewer)
-seen_by false t t' f f' l l' n moved on fewer = sym moved.whole
-
--- Nothing was given of the paths before the search began.
-searches_before : (wanted : List ℕ → Bool) (bound : List ℕ → ℕ) (separator : ℕ) (t t' : Window → ToCome) (f f' : FeedState) (l l' l'' u v : Option (List ℕ)) (m m' s s' : ℕ) (result : Outcome)
-    → MovedKnown t t' (λ x. x) f l f' l' → IfSome l' (λ a. IfSome l'' (λ b. length b ≤ length a)) → SearchesKnown wanted bound separator t' f' l' l'' u v m m' s s' result
-    → SearchesKnown wanted bound separator t f l l'' u v m m' s s' result
-searches_before wanted bound separator t t' f f' None l' l'' u v m m' s s' result moved fewer done = tt
-searches_before wanted bound separator t t' f f' (Some a) None l'' u v m m' s s' result moved fewer done = absurd moved
-searches_before wanted bound separator t t' f f' (Some a) (Some b) None u v m m' s s' result moved fewer done = absurd done
-searches_before wanted bound separator t t' f f' (Some a) (Some b) (Some c) u v m m' s s' result moved fewer done = (
-  λ e. (moved.goes_on (done.0 e)).0,
-  subst (λ (seen : ToCome). Searches wanted bound separator seen u v m m' s s' result) (seen_by (is_read_fault result) t t' f f' a b (length c) moved done.0 fewer) done.1,
-)
-
--- ---- of a whole file
+-- ---- from the first byte on
 
 whole_window : (file : List ℕ) → window (empty_at 0) file ≡ readable file
 whole_window file =
@@ -56,53 +46,12 @@ part_window file left n fits rest =
     let room : limit - 0 ≡ limit = omega arith in
     ap (λ (k : ℕ). record { bytes = take (limit - 0) (take k file); more = true }) all ∙ ap (λ (k : ℕ). record { bytes = take k (take n file); more = true }) room
 
-raised_gap : (g n : ℕ) → g ≤ 2 ^ 62 → n ≤ 2 ^ 40 → raised g n - g ≡ n
+raised_gap : (g n : ℕ) → g ≤ 2 ^ 63 → n ≤ 2 ^ 40 → raised g n - g ≡ n
 raised_gap g n small fits = omega (arith, small, fits)
 
--- what may be shown, where nobody is asked, and of what has no path
-shown : (file : List ℕ) (z : ToCome) → flag_in (beginning_of mlocate (readable file)) ≡ false → shown_in file z ≡ z
-shown file z unset = ap (λ (b : Bool). cond b (no_paths 0 0 (Err faults.NotADatabase)) z) unset
-
-hidden : (b : Bool) (z : ToCome) → z.paths ≡ [] → (cond b (no_paths 0 0 (Err faults.NotADatabase)) z).paths ≡ []
-hidden true z none = refl
-hidden false z none = none
-
-seen_file : (b : Bool) (file left : List ℕ) (n k : ℕ) → n ≤ length file → left ≡ drop n file → (b ≡ true → k ≡ n) → flag_in (beginning_of mlocate (readable file)) ≡ false
-    → to_come mlocate mlocate.begin 0 0 (cond b (so_far (empty_at 0) file (length left)) (window (empty_at 0) file)) ≡ shown_in file (cond b (contents_of_part mlocate k file) (contents mlocate file))
-seen_file true file left n k fits rest same unset =
-    ap (to_come mlocate mlocate.begin 0 0) (part_window file left n fits rest) ∙ ap (λ (c : ℕ). contents_of_part mlocate c file) (sym (same refl)) ∙ sym (shown file (contents_of_part mlocate k file) unset)
-seen_file false file left n k fits rest same unset = ap (to_come mlocate mlocate.begin 0 0) (whole_window file) ∙ sym (shown file (contents mlocate file) unset)
-
-is_the_read_fault : (result : Outcome) → is_read_fault result ≡ true → result ≡ outcomes.ReadFault
-is_the_read_fault outcomes.Whole e = absurd cc
-is_the_read_fault outcomes.Missing e = absurd cc
-is_the_read_fault outcomes.NotADatabase e = absurd cc
-is_the_read_fault (outcomes.Damage d) e = absurd cc
-is_the_read_fault outcomes.ReadFault e = refl
-is_the_read_fault outcomes.TooLarge e = absurd cc
-is_the_read_fault outcomes.WriteFault e = absurd cc
-
--- What a search did from the first byte on, it did of the file.
-searches_file : (wanted : List ℕ → Bool) (bound : List ℕ → ℕ) (separator : ℕ) (f : FeedState) (l l' u v : Option (List ℕ)) (g g' m m' s s' : ℕ) (result : Outcome)
-    → SearchesKnown wanted bound separator (to_come mlocate mlocate.begin 0 0) (empty_at 0) l l' u v m m' s s' result
-    → IfSome l (λ file. flag_in (beginning_of mlocate (readable file)) ≡ false)
-    → Draws (empty_at 0) f g g' l l' → reach f ≤ 2 ^ 40
-    → IfSome l (λ file. (result ≡ outcomes.ReadFault → g ≤ 2 ^ 62) → Searches wanted bound separator (seen_in file (g' - g) result) u v m m' s s' result)
-searches_file wanted bound separator f None l' u v g g' m m' s s' result done unset drawn far = tt
-searches_file wanted bound separator f (Some file) None u v g g' m m' s s' result done unset drawn far = absurd done
-searches_file wanted bound separator f (Some file) (Some left) u v g g' m m' s s' result done unset drawn far = λ small.
-    let n : ℕ = reach f - reach (empty_at 0) in
-    let fits : n ≤ 2 ^ 40 = omega (arith, far) in
-    let gap : is_read_fault result ≡ true → g' - g ≡ n = λ yes. ap (λ (k : ℕ). k - g) drawn.count ∙ raised_gap g n (small (is_the_read_fault result yes)) fits in
-    let seen : seen_of (to_come mlocate mlocate.begin 0 0) (empty_at 0) file (length left) result ≡ seen_in file (g' - g) result =
-    seen_file (is_read_fault result) file left n (g' - g) drawn.rest.0 drawn.rest.1 gap unset in
-    subst (λ (z : ToCome). Searches wanted bound separator z u v m m' s s' result) seen done.1
-
 -- how much a search drew is no more than was left
-fewer_left : (f f' : FeedState) (g g' : ℕ) (l l' : Option (List ℕ)) → Draws f f' g g' l l' → IfSome l (λ a. IfSome l' (λ b. length b ≤ length a))
-fewer_left f f' g g' None l' drawn = tt
-fewer_left f f' g g' (Some a) None drawn = tt
-fewer_left f f' g g' (Some a) (Some b) drawn = omega (arith, ap length drawn.rest.1, length-drop (reach f' - reach f) a)
+fewer_left : (f f' : FeedState) (g g' : ℕ) (l l' : List ℕ) → Draws f f' g g' (Some l) (Some l') → length l' ≤ length l
+fewer_left f f' g g' l l' drawn = omega (arith, ap length drawn.rest.1, length-drop (reach f' - reach f) l)
 
 -- it drew no more than the limit
 pub drawn_rises : (f f' : FeedState) (g g' : ℕ) (l l' : Option (List ℕ)) → Draws f f' g g' l l' → g ≤ g'
@@ -111,134 +60,217 @@ drawn_rises f f' g g' l l' drawn = omega (arith, drawn.count)
 pub drawn_within : (f f' : FeedState) (g g' : ℕ) (l l' : Option (List ℕ)) → Draws f f' g g' l l' → reach f' ≤ 2 ^ 40 → g' ≤ g + 2 ^ 40
 drawn_within f f' g g' l l' drawn far = omega (arith, drawn.count, far)
 
--- ---- a file that does not begin
+is_the_read_fault : (result : Outcome) → is_read_fault result ≡ true → result ≡ outcomes.ReadFault
+is_the_read_fault outcomes.Whole e = absurd cc
+is_the_read_fault outcomes.Missing e = absurd cc
+is_the_read_fault outcomes.NotADatabase e = absurd cc
+is_the_read_fault (outcomes.Damage d) e = absurd cc
+is_the_read_fault outcomes.ReadFault e = refl
+is_the_read_fault outcomes.GateFault e = absurd cc
+is_the_read_fault outcomes.TooLarge e = absurd cc
+is_the_read_fault outcomes.LimitReached e = absurd cc
+is_the_read_fault outcomes.WriteFault e = absurd cc
 
-no_flag : (file : List ℕ) → beginning_of mlocate (window (empty_at 0) file) ≡ None → flag_in (beginning_of mlocate (readable file)) ≡ false
-no_flag file e = ap (λ (w : Window). flag_in (beginning_of mlocate w)) (sym (whole_window file)) ∙ ap flag_in e
+-- what is seen of a file that is read from its first byte on, as far as it was drawn
+seen_file : (b : Bool) (file left : List ℕ) (n k : ℕ) → n ≤ length file → left ≡ drop n file → (b ≡ true → k ≡ n)
+    → rest_in (cond b (so_far (empty_at 0) file (length left)) (window (empty_at 0) file)) ≡ cond b (contents_of_part k file) (contents file)
+seen_file true file left n k fits rest same = ap rest_in (part_window file left n fits rest) ∙ ap (λ (c : ℕ). contents_of_part c file) (sym (same refl))
+seen_file false file left n k fits rest same = ap rest_in (whole_window file)
 
-no_flag_known : (l l' : Option (List ℕ)) (fault : DbFault) → UnbegunKnown (beginning_of mlocate) (empty_at 0) l l' fault → is_read_fault (outcome_of (Err fault)) ≡ false
-    → IfSome l (λ file. flag_in (beginning_of mlocate (readable file)) ≡ false)
-no_flag_known None l' fault none whole = tt
-no_flag_known (Some file) None fault none whole = absurd none
-no_flag_known (Some file) (Some left) faults.NotADatabase none whole = no_flag file none
-no_flag_known (Some file) (Some left) (faults.Damage d) none whole = no_flag file none
-no_flag_known (Some file) (Some left) faults.ReadFault none whole = absurd cc
-no_flag_known (Some file) (Some left) faults.TooLarge none whole = no_flag file none
-
--- no path was given, and none was printed
-searches_none : (wanted : List ℕ → Bool) (bound : List ℕ → ℕ) (separator : ℕ) (t : Window → ToCome) (f : FeedState) (l l' u : Option (List ℕ)) (m s : ℕ) (fault : DbFault)
-    → EndsKnown t (no_paths 0 0) f l l' (Err fault) → SearchesKnown wanted bound separator t f l l' u u m m s s (outcome_of (Err fault))
-searches_none wanted bound separator t f l l' u m s fault ends =
-    searches_end wanted bound separator t t [] f f u u m m s s (Appends-nil u) (omega arith) (omega arith) l l l' 0 0 (Err fault) (moved_none t f l) ends
-
--- a list of paths that is empty, whatever it ends with
-searches_empty : (wanted : List ℕ → Bool) (bound : List ℕ → ℕ) (separator : ℕ) (u : Option (List ℕ)) (m s : ℕ) (seen : ToCome) (result : Outcome)
-    → seen.paths ≡ [] → (IsTrue (ends_itself result) → result ≡ outcome_of seen.ending) → is_write_fault result ≡ false → Searches wanted bound separator seen u u m m s s result
-searches_empty wanted bound separator u m s seen result none ends went =
-    all_given wanted bound separator (to_come mlocate mlocate.begin 0 0) (to_come mlocate mlocate.begin 0 0) [] (empty_at 0) (empty_at 0) u u m m s s (Appends-nil u) (omega arith) (omega arith) seen result none ends went
-
--- the reader failed inside the first part
-searches_failed : (wanted : List ℕ → Bool) (bound : List ℕ → ℕ) (separator : ℕ) (f : FeedState) (l l' u : Option (List ℕ)) (g g' m s : ℕ)
-    → EndsKnown (to_come mlocate mlocate.begin 0 0) (no_paths 0 0) (empty_at 0) l l' (Err faults.ReadFault) → Draws (empty_at 0) f g g' l l' → reach f ≤ 2 ^ 40
-    → IfSome l (λ file. (outcomes.ReadFault ≡ outcomes.ReadFault → g ≤ 2 ^ 62) → Searches wanted bound separator (seen_in file (g' - g) outcomes.ReadFault) u u m m s s outcomes.ReadFault)
-searches_failed wanted bound separator f None l' u g g' m s ends drawn far = tt
-searches_failed wanted bound separator f (Some file) None u g g' m s ends drawn far = absurd ends
-searches_failed wanted bound separator f (Some file) (Some left) u g g' m s ends drawn far = λ small.
+seen_by : (f : FeedState) (g g' : ℕ) (file left : List ℕ) (result : Outcome) → Draws (empty_at 0) f g g' (Some file) (Some left) → reach f ≤ 2 ^ 40 → (result ≡ outcomes.ReadFault → g ≤ 2 ^ 63)
+    → seen_of rest_in (empty_at 0) file (length left) result ≡ seen_in file (g' - g) result
+seen_by f g g' file left result drawn far small =
     let n : ℕ = reach f - reach (empty_at 0) in
     let fits : n ≤ 2 ^ 40 = omega (arith, far) in
-    let gap : g' - g ≡ n = ap (λ (k : ℕ). k - g) drawn.count ∙ raised_gap g n (small refl) fits in
-    let none : (contents_of_part mlocate (g' - g) file).paths ≡ [] =
-    ap (λ (k : ℕ). (contents_of_part mlocate k file).paths) gap ∙ ap (λ (w : Window). (to_come mlocate mlocate.begin 0 0 w).paths) (sym (part_window file left n drawn.rest.0 drawn.rest.1)) ∙ ap (λ (z : ToCome). z.paths) ends.nothing in
-    searches_empty wanted bound separator u m s (seen_in file (g' - g) outcomes.ReadFault) outcomes.ReadFault
-    (hidden (flag_in (beginning_of mlocate (readable file))) (contents_of_part mlocate (g' - g) file) none) (λ no. absurd (not_itself no)) refl
+    let gap : is_read_fault result ≡ true → g' - g ≡ n = λ failed. ap (λ (k : ℕ). k - g) drawn.count ∙ raised_gap g n (small (is_the_read_fault result failed)) fits in
+    seen_file (is_read_fault result) file left n (g' - g) drawn.rest.0 drawn.rest.1 gap
 
--- the file's flag as its beginning tells it
-flag_told : (l : Option (List ℕ)) (place : ℕ) (flag : Bool) → BeginsKnown (beginning_of mlocate) (empty_at 0) l place flag → IfSome l (λ file. flag_in (beginning_of mlocate (readable file)) ≡ flag)
-flag_told None place flag told = tt
-flag_told (Some file) place flag told = ap (λ (w : Window). flag_in (beginning_of mlocate w)) (sym (whole_window file)) ∙ ap flag_in told
+-- whether it asks for visible paths alone
+gated_is : (file : List ℕ) (place : ℕ) (gated : Bool) → beginning (window (empty_at 0) file) ≡ Some (place, gated) → is_gated file ≡ gated
+gated_is file place gated begun = ap (λ (w : Window). asks_gate (beginning w)) (sym (whole_window file)) ∙ ap asks_gate begun
 
--- a search that may not ask
-searches_gated : (wanted : List ℕ → Bool) (bound : List ℕ → ℕ) (separator : ℕ) (l u : Option (List ℕ)) (g m s : ℕ)
-    → IfSome l (λ file. flag_in (beginning_of mlocate (readable file)) ≡ true)
-    → IfSome l (λ file. (outcomes.NotADatabase ≡ outcomes.ReadFault → g ≤ 2 ^ 62) → Searches wanted bound separator (paths_in file) u u m m s s outcomes.NotADatabase)
-searches_gated wanted bound separator None u g m s flag = tt
-searches_gated wanted bound separator (Some file) u g m s flag = λ small.
-    let none : paths_in file ≡ no_paths 0 0 (Err faults.NotADatabase) = ap (λ (b : Bool). cond b (no_paths 0 0 (Err faults.NotADatabase)) (contents mlocate file)) flag in
-    subst (λ (z : ToCome). Searches wanted bound separator z u u m m s s outcomes.NotADatabase) (sym none)
-    (searches_empty wanted bound separator u m s (no_paths 0 0 (Err faults.NotADatabase)) outcomes.NotADatabase refl (λ _. refl) refl)
+-- ---- of what is told
 
--- the flag that is told, and what it is
-told : (l : Option (List ℕ)) (flag asked : Bool) → IfSome l (λ file. flag_in (beginning_of mlocate (readable file)) ≡ flag) → flag ≡ asked → IfSome l (λ file. flag_in (beginning_of mlocate (readable file)) ≡ asked)
-told None flag asked first then = tt
-told (Some file) flag asked first then = first ∙ then
+if_some : {T : Type 0} (o : Option T) (P : T → Type 0) → ((x : T) → P x) → IfSome o P
+if_some None P all = tt
+if_some (Some x) P all = all x
 
--- ---- a file that could not be opened
+if_each : {T : Type 0} (o : Option T) (P Q : T → Type 0) → ((x : T) → P x → Q x) → IfSome o P → IfSome o Q
+if_each None P Q each h = tt
+if_each (Some x) P Q each h = each x h
 
-no_bytes : (more : Bool) → (to_come mlocate mlocate.begin 0 0 (record { bytes = []; more = more })).paths ≡ []
-unfolding rest_of items_of items_within
+-- ---- a file that does not begin
+
+no_bytes : (more : Bool) → (rest_in (record { bytes = []; more = more })).paths ≡ []
+unfolding rest_in format_of rest_of items_of items_within
 no_bytes more = refl
 
-nothing_given : (n : ℕ) (file : List ℕ) → n ≡ 0 → (contents_of_part mlocate n file).paths ≡ []
+nothing_given : (n : ℕ) (file : List ℕ) → n ≡ 0 → (contents_of_part n file).paths ≡ []
 nothing_given n file none =
     let all : record { bytes = take limit (take n file); more = true } ≡ record { bytes = []; more = true } = ap (λ (bytes : List ℕ). record { bytes = bytes; more = true }) (ap (λ (k : ℕ). take limit (take k file)) none ∙ take-nil limit) in
-    ap (λ (w : Window). (to_come mlocate mlocate.begin 0 0 w).paths) all ∙ no_bytes true
+    ap (λ (w : Window). (rest_in w).paths) all ∙ no_bytes true
 
-searches_unopened : (wanted : List ℕ → Bool) (bound : List ℕ → ℕ) (separator : ℕ) (u : Option (List ℕ)) (g g' m s : ℕ) → g' ≡ g → (file : List ℕ)
-    → Searches wanted bound separator (seen_in file (g' - g) outcomes.ReadFault) u u m m s s outcomes.ReadFault
-searches_unopened wanted bound separator u g g' m s same file =
-    searches_empty wanted bound separator u m s (seen_in file (g' - g) outcomes.ReadFault) outcomes.ReadFault
-    (hidden (flag_in (beginning_of mlocate (readable file))) (contents_of_part mlocate (g' - g) file) (nothing_given (g' - g) file (omega (arith, same)))) (λ no. absurd (not_itself no)) refl
+no_read_fault : (result : Outcome) → (result ≡ outcomes.ReadFault → ⊥) → is_read_fault result ≡ false
+no_read_fault outcomes.Whole read = refl
+no_read_fault outcomes.Missing read = refl
+no_read_fault outcomes.NotADatabase read = refl
+no_read_fault (outcomes.Damage d) read = refl
+no_read_fault outcomes.ReadFault read = absurd (read refl)
+no_read_fault outcomes.GateFault read = refl
+no_read_fault outcomes.TooLarge read = refl
+no_read_fault outcomes.LimitReached read = refl
+no_read_fault outcomes.WriteFault read = refl
 
-in_files : (wanted : List ℕ → Bool) (bound : List ℕ → ℕ) (separator : ℕ) (u : Option (List ℕ)) (g g' m s : ℕ) (found : Option (List ℕ)) → g' ≡ g
-    → IfSome found (λ file. (outcomes.ReadFault ≡ outcomes.ReadFault → g ≤ 2 ^ 62) → Searches wanted bound separator (seen_in file (g' - g) outcomes.ReadFault) u u m m s s outcomes.ReadFault)
-in_files wanted bound separator u g g' m s None same = tt
-in_files wanted bound separator u g g' m s (Some file) same = λ small. searches_unopened wanted bound separator u g g' m s same file
+no_path_by : (rule : Rule) (bound : List ℕ → ℕ) (old : Stand) (s : ℕ) (seen : ToCome) (result : Outcome) → IfSome rule.limit (λ limit. old.matched < limit) → seen.paths ≡ [] → (is_read_fault result ≡ false → result ≡ outcome_of seen.ending)
+    → (ComesToEnd rule seen old.matched (gone_through seen.paths) result → StopsAs rule seen old.matched (gone_through seen.paths) result) → Searches rule bound seen old old s s result
+no_path_by rule bound old s seen result below none ends stops = all_given rule bound old old s s below [] seen result (went_none rule bound old s) none ends stops
 
-pub unopened_known : (wanted : List ℕ → Bool) (bound : List ℕ → ℕ) (separator : ℕ) (u : Option (List ℕ)) (g g' m s : ℕ) (files : Option Files) (name : List ℕ) → g' ≡ g
-    → IfSome files (λ files. IfSome (map.get files name) (λ file. (outcomes.ReadFault ≡ outcomes.ReadFault → g ≤ 2 ^ 62) → Searches wanted bound separator (seen_in file (g' - g) outcomes.ReadFault) u u m m s s outcomes.ReadFault))
-unopened_known wanted bound separator u g g' m s None name same = tt
-unopened_known wanted bound separator u g g' m s (Some files) name same = in_files wanted bound separator u g g' m s (map.get files name) same
+module _ (wanted : List ℕ → Bool) (bound : List ℕ → ℕ) (query : Query) (tests : Option Tests) (old : Stand) (s : ℕ) (below : IfSome query.limit (λ limit. old.matched < limit)) where
+  any_tests : (file : List ℕ) (g g' : ℕ) (result : Outcome) → ((result ≡ outcomes.ReadFault → g ≤ 2 ^ 63) → (told : Tests) → Searches (rule_of wanted query (is_gated file) told) bound (seen_in file (g' - g) result) old old s s result)
+      → SearchesFile wanted bound query file tests g g' old old s s result
+  any_tests file g g' result all = if_some (tests_asked (is_gated file || query.existing) tests) (λ told. (result ≡ outcomes.ReadFault → g ≤ 2 ^ 63) → Searches (rule_of wanted query (is_gated file) told) bound (seen_in file (g' - g) result) old old s s result) (λ told small. all small told)
 
--- ---- by a reader that has read nothing
+  -- the file ends so before its first path
+  fails_whole : (fault : DbFault) (file : List ℕ) (g g' : ℕ) → rest_in (window (empty_at 0) file) ≡ no_paths 0 0 (Err fault) → is_read_fault (outcome_of (Err fault)) ≡ false
+      → ((rule : Rule) (seen : ToCome) (at : Progress) → ComesToEnd rule seen old.matched at (outcome_of (Err fault)) → StopsAs rule seen old.matched at (outcome_of (Err fault)))
+      → SearchesFile wanted bound query file tests g g' old old s s (outcome_of (Err fault))
+  fails_whole fault file g g' nothing read stops = any_tests file g g' (outcome_of (Err fault)) (λ small told.
+      let seen : seen_in file (g' - g) (outcome_of (Err fault)) ≡ no_paths 0 0 (Err fault) =
+      ap (λ (b : Bool). cond b (contents_of_part (g' - g) file) (contents file)) read ∙ ap rest_in (sym (whole_window file)) ∙ nothing in
+      no_path_by (rule_of wanted query (is_gated file) told) bound old s (seen_in file (g' - g) (outcome_of (Err fault))) (outcome_of (Err fault)) below (ap (λ (z : ToCome). z.paths) seen)
+      (λ _. ap (λ (z : ToCome). outcome_of z.ending) (sym seen)) (stops (rule_of wanted query (is_gated file) told) _ _))
 
-module _ (r : ReaderState) (fresh : r ≡ fresh_on (empty_at 0)) (wanted : List ℕ → Bool) (bound : List ℕ → ℕ) (separator : ℕ) where
-  fails_whole : (fault : DbFault) (f : FeedState) (l l' u : Option (List ℕ)) (g g' m s : ℕ)
-      → EndsKnown (to_come mlocate mlocate.begin 0 0) (no_paths 0 0) (empty_at 0) l l' (Err fault) → UnbegunKnown (beginning_of mlocate) (empty_at 0) l l' fault → Draws (empty_at 0) f g g' l l' → reach f ≤ 2 ^ 40
-      → is_read_fault (outcome_of (Err fault)) ≡ false
-      → IfSome l (λ file. (outcome_of (Err fault) ≡ outcomes.ReadFault → g ≤ 2 ^ 62) → Searches wanted bound separator (seen_in file (g' - g) (outcome_of (Err fault))) u u m m s s (outcome_of (Err fault)))
-  fails_whole fault f l l' u g g' m s ends none drawn far whole =
-      searches_file wanted bound separator f l l' u u g g' m m s s (outcome_of (Err fault))
-      (searches_none wanted bound separator (to_come mlocate mlocate.begin 0 0) (empty_at 0) l l' u m s fault ends) (no_flag_known l l' fault none whole) drawn far
+  fails_by : (fault : DbFault) (f : FeedState) (file left : List ℕ) (g g' : ℕ) → EndsKnown rest_in (no_paths 0 0) (empty_at 0) (Some file) (Some left) (Err fault) → Draws (empty_at 0) f g g' (Some file) (Some left) → reach f ≤ 2 ^ 40
+      → SearchesFile wanted bound query file tests g g' old old s s (outcome_of (Err fault))
+  fails_by faults.ReadFault f file left g g' ends drawn far = any_tests file g g' outcomes.ReadFault (λ small told.
+      let seen : rest_in (so_far (empty_at 0) file (length left)) ≡ seen_in file (g' - g) outcomes.ReadFault = seen_by f g g' file left outcomes.ReadFault drawn far small in
+      no_path_by (rule_of wanted query (is_gated file) told) bound old s (seen_in file (g' - g) outcomes.ReadFault) outcomes.ReadFault below (ap (λ (z : ToCome). z.paths) (sym seen ∙ ends.nothing))
+      (λ e. absurd (on_off e)) (λ z. z))
+  fails_by faults.NotADatabase f file left g g' ends drawn far = fails_whole faults.NotADatabase file g g' ends refl (λ rule seen at z. z)
+  fails_by (faults.Damage d) f file left g g' ends drawn far = fails_whole (faults.Damage d) file g g' ends refl (λ rule seen at z. z)
+  fails_by faults.TooLarge f file left g g' ends drawn far = fails_whole faults.TooLarge file g g' ends refl (λ rule seen at z. z)
 
-  fails_by : (fault : DbFault) (f : FeedState) (l l' u : Option (List ℕ)) (g g' m s : ℕ)
-      → EndsKnown (to_come mlocate mlocate.begin 0 0) (no_paths 0 0) (empty_at 0) l l' (Err fault) → UnbegunKnown (beginning_of mlocate) (empty_at 0) l l' fault → Draws (empty_at 0) f g g' l l' → reach f ≤ 2 ^ 40
-      → IfSome l (λ file. (outcome_of (Err fault) ≡ outcomes.ReadFault → g ≤ 2 ^ 62) → Searches wanted bound separator (seen_in file (g' - g) (outcome_of (Err fault))) u u m m s s (outcome_of (Err fault)))
-  fails_by faults.ReadFault f l l' u g g' m s ends none drawn far = searches_failed wanted bound separator f l l' u g g' m s ends drawn far
-  fails_by faults.NotADatabase f l l' u g g' m s ends none drawn far = fails_whole faults.NotADatabase f l l' u g g' m s ends none drawn far refl
-  fails_by (faults.Damage d) f l l' u g g' m s ends none drawn far = fails_whole (faults.Damage d) f l l' u g g' m s ends none drawn far refl
-  fails_by faults.TooLarge f l l' u g g' m s ends none drawn far = fails_whole faults.TooLarge f l l' u g g' m s ends none drawn far refl
+  fails_known : (fault : DbFault) (f : FeedState) (l l' : Option (List ℕ)) (g g' : ℕ) → EndsKnown rest_in (no_paths 0 0) (empty_at 0) l l' (Err fault) → Draws (empty_at 0) f g g' l l' → reach f ≤ 2 ^ 40
+      → IfSome l (λ file. SearchesFile wanted bound query file tests g g' old old s s (outcome_of (Err fault)))
+  fails_known fault f None l' g g' ends drawn far = tt
+  fails_known fault f (Some file) None g g' ends drawn far = absurd ends
+  fails_known fault f (Some file) (Some left) g g' ends drawn far = fails_by fault f file left g g' ends drawn far
 
-  -- the file does not begin
-  pub opened_fails : (f : FeedState) (l l' u : Option (List ℕ)) (g g' m s : ℕ) (fault : DbFault)
-      → EndsKnown (paths_left r) (no_paths 0 0) r.feed l l' (Err fault) → UnbegunKnown (beginning_of mlocate) r.feed l l' fault → Draws r.feed f g g' l l' → reach f ≤ 2 ^ 40
-      → IfSome l (λ file. (outcome_of (Err fault) ≡ outcomes.ReadFault → g ≤ 2 ^ 62) → Searches wanted bound separator (seen_in file (g' - g) (outcome_of (Err fault))) u u m m s s (outcome_of (Err fault)))
-  opened_fails f l l' u g g' m s fault ends none drawn far =
-      fails_by fault f l l' u g g' m s (subst (λ (q : ReaderState). EndsKnown (paths_left q) (no_paths 0 0) q.feed l l' (Err fault)) fresh ends)
-      (subst (λ (q : ReaderState). UnbegunKnown (beginning_of mlocate) q.feed l l' fault) fresh none) (subst (λ (q : ReaderState). Draws q.feed f g g' l l') fresh drawn) far
+  pub opened_fails : (r : AnyReader) → r ≡ fresh → (fault : DbFault) (f : FeedState) (l l' : Option (List ℕ)) (g g' : ℕ)
+      → EndsKnown (paths_left r.stage) (no_paths 0 0) (feed_of r.stage) l l' (Err fault) → Draws (feed_of r.stage) f g g' l l' → reach f ≤ 2 ^ 40
+      → IfSome l (λ file. SearchesFile wanted bound query file tests g g' old old s s (outcome_of (Err fault)))
+  opened_fails r new fault f l l' g g' ends drawn far =
+      fails_known fault f l l' g g' (subst (λ (q : AnyReader). EndsKnown (paths_left q.stage) (no_paths 0 0) (feed_of q.stage) l l' (Err fault)) new ends)
+      (subst (λ (q : AnyReader). Draws (feed_of q.stage) f g g' l l') new drawn) far
 
-  -- it asks who may see
-  pub opened_gated : (l u : Option (List ℕ)) (place g m s : ℕ) (flag : Bool) → BeginsKnown (beginning_of mlocate) r.feed l place flag → flag ≡ true
-      → IfSome l (λ file. (outcomes.NotADatabase ≡ outcomes.ReadFault → g ≤ 2 ^ 62) → Searches wanted bound separator (paths_in file) u u m m s s outcomes.NotADatabase)
-  opened_gated l u place g m s flag begun is =
-      searches_gated wanted bound separator l u g m s (told l flag true (flag_told l place flag (subst (λ (q : ReaderState). BeginsKnown (beginning_of mlocate) q.feed l place flag) fresh begun)) is)
+  -- ---- a file that could not be opened
 
-  -- it was searched from its first path on
-  pub opened_searched : (t : Window → ToCome) (f f' : FeedState) (l l' l'' u v : Option (List ℕ)) (g g' g'' m m' s s' place : ℕ) (flag : Bool) (result : Outcome)
-      → BeginsKnown (beginning_of mlocate) r.feed l place flag → flag ≡ false → MovedKnown (paths_left r) t (λ x. x) r.feed l f l' → Draws r.feed f g g' l l'
-      → SearchesKnown wanted bound separator t f l' l'' u v m m' s s' result → Draws f f' g' g'' l' l'' → reach f' ≤ 2 ^ 40
-      → IfSome l (λ file. (result ≡ outcomes.ReadFault → g ≤ 2 ^ 62) → Searches wanted bound separator (seen_in file (g'' - g) result) u v m m' s s' result)
-  opened_searched t f f' l l' l'' u v g g' g'' m m' s s' place flag result begun is moved drawn done more far =
-      searches_file wanted bound separator f' l l'' u v g g'' m m' s s' result
-      (searches_before wanted bound separator (to_come mlocate mlocate.begin 0 0) t (empty_at 0) f l l' l'' u v m m' s s' result (subst (λ (q : ReaderState). MovedKnown (paths_left q) t (λ x. x) q.feed l f l') fresh moved) (fewer_left f f' g' g'' l' l'' more) done)
-      (told l flag false (flag_told l place flag (subst (λ (q : ReaderState). BeginsKnown (beginning_of mlocate) q.feed l place flag) fresh begun)) is)
-      (draws_then (empty_at 0) f f' g g' g'' l l' l'' (subst (λ (q : ReaderState). Draws q.feed f g g' l l') fresh drawn) more) far
+  unopened_file : (file : List ℕ) (g g' : ℕ) → g' ≡ g → SearchesFile wanted bound query file tests g g' old old s s outcomes.ReadFault
+  unopened_file file g g' same = any_tests file g g' outcomes.ReadFault (λ small told.
+      no_path_by (rule_of wanted query (is_gated file) told) bound old s (seen_in file (g' - g) outcomes.ReadFault) outcomes.ReadFault below (nothing_given (g' - g) file (omega (arith, same)))
+      (λ e. absurd (on_off e)) (λ z. z))
+
+  unopened_in : (found : Option (List ℕ)) (g g' : ℕ) → g' ≡ g → IfSome found (λ file. SearchesFile wanted bound query file tests g g' old old s s outcomes.ReadFault)
+  unopened_in None g g' same = tt
+  unopened_in (Some file) g g' same = unopened_file file g g' same
+
+  pub unopened_known : (files : Option Files) (name : List ℕ) (g g' : ℕ) → g' ≡ g → IfSome files (λ files. IfSome (map.get files name) (λ file. SearchesFile wanted bound query file tests g g' old old s s outcomes.ReadFault))
+  unopened_known None name g g' same = tt
+  unopened_known (Some files) name g g' same = unopened_in (map.get files name) g g' same
+
+-- ---- a file that begins
+
+-- Of the paths that come after the first part, those of one block have one directory.
+blocks_of : (t : Window → ToCome) (f : FeedState) (file left : List ℕ) (place : ℕ) (gated : Bool) → beginning (window (empty_at 0) file) ≡ Some (place, gated) → Moved rest_in t (λ x. x) (empty_at 0) file f left
+    → gated ≡ true → OneDirectory (t (window f left)).paths
+blocks_of t f file left place gated begun moved asks p q before between behind all same =
+    one_directory_a_block (window (empty_at 0) file) (ap asks_gate begun ∙ asks) p q before between behind (ap (λ (z : ToCome). z.paths) moved.whole ∙ all) same
+
+seen_later : (b : Bool) (t t' : Window → ToCome) (f f' : FeedState) (l l' : List ℕ) (n : ℕ) → Moved t t' (λ x. x) f l f' l' → (b ≡ true → f'.ended ≡ false) → n ≤ length l'
+    → t' (cond b (so_far f' l' n) (window f' l')) ≡ t (cond b (so_far f l n) (window f l))
+seen_later true t t' f f' l l' n moved on fewer = sym (moved.parts (on refl) n fewer)
+seen_later false t t' f f' l l' n moved on fewer = sym moved.whole
+
+module _ (wanted : List ℕ → Bool) (bound : List ℕ → ℕ) (query : Query) (tests : Option Tests) (old new : Stand) (s s' : ℕ) (result : Outcome) where
+  in_file : (t : Window → ToCome) (f f' : FeedState) (file mid left : List ℕ) (g g' g'' : ℕ) (gated : Bool) → is_gated file ≡ gated
+      → Moved rest_in t (λ x. x) (empty_at 0) file f mid → Draws f f' g' g'' (Some mid) (Some left) → Draws (empty_at 0) f' g g'' (Some file) (Some left) → reach f' ≤ 2 ^ 40
+      → IfSome (tests_asked (gated || query.existing) tests) (λ told. SearchesKnown (rule_of wanted query gated told) bound t f (Some mid) (Some left) old new s s' result)
+      → SearchesFile wanted bound query file tests g g'' old new s s' result
+  in_file t f f' file mid left g g' g'' gated same moved more drawn far done =
+      subst (λ (b : Bool). IfSome (tests_asked (b || query.existing) tests) (λ told. (result ≡ outcomes.ReadFault → g ≤ 2 ^ 63) → Searches (rule_of wanted query b told) bound (seen_in file (g'' - g) result) old new s s' result)) (sym same)
+      (if_each (tests_asked (gated || query.existing) tests)
+      (λ told. SearchesKnown (rule_of wanted query gated told) bound t f (Some mid) (Some left) old new s s' result)
+      (λ told. (result ≡ outcomes.ReadFault → g ≤ 2 ^ 63) → Searches (rule_of wanted query gated told) bound (seen_in file (g'' - g) result) old new s s' result)
+      (λ told known small.
+      subst (λ (z : ToCome). Searches (rule_of wanted query gated told) bound z old new s s' result)
+      (seen_later (is_read_fault result) rest_in t (empty_at 0) f file mid (length left) moved known.0 (fewer_left f f' g' g'' mid left more) ∙ seen_by f' g g'' file left result drawn far small)
+      known.1)
+      done)
+
+  found_known : (t : Window → ToCome) (f f' : FeedState) (l l' l'' : Option (List ℕ)) (g g' g'' place : ℕ) (gated : Bool) → BeginsKnown beginning (empty_at 0) l place gated
+      → MovedKnown rest_in t (λ x. x) (empty_at 0) l f l' → Draws (empty_at 0) f g g' l l' → Draws f f' g' g'' l' l'' → reach f' ≤ 2 ^ 40
+      → (OneDirectoryLeft gated t f l' → IfSome (tests_asked (gated || query.existing) tests) (λ told. SearchesKnown (rule_of wanted query gated told) bound t f l' l'' old new s s' result))
+      → IfSome l (λ file. SearchesFile wanted bound query file tests g g'' old new s s' result)
+  found_known t f f' None l' l'' g g' g'' place gated begun moved drawn more far done = tt
+  found_known t f f' (Some file) None l'' g g' g'' place gated begun moved drawn more far done = absurd moved
+  found_known t f f' (Some file) (Some mid) None g g' g'' place gated begun moved drawn more far done = absurd more.rest
+  found_known t f f' (Some file) (Some mid) (Some left) g g' g'' place gated begun moved drawn more far done =
+      in_file t f f' file mid left g g' g'' gated (gated_is file place gated begun) moved more (draws_then (empty_at 0) f f' g g' g'' (Some file) (Some mid) (Some left) drawn more) far
+      (done (blocks_of t f file mid place gated begun moved))
+
+  pub opened_searched : (r : AnyReader) → r ≡ fresh → (t : Window → ToCome) (f f' : FeedState) (l l' l'' : Option (List ℕ)) (g g' g'' place : ℕ) (gated : Bool) → BeginsKnown beginning (feed_of r.stage) l place gated
+      → MovedKnown (paths_left r.stage) t (λ x. x) (feed_of r.stage) l f l' → Draws (feed_of r.stage) f g g' l l' → Draws f f' g' g'' l' l'' → reach f' ≤ 2 ^ 40
+      → (OneDirectoryLeft gated t f l' → IfSome (tests_asked (gated || query.existing) tests) (λ told. SearchesKnown (rule_of wanted query gated told) bound t f l' l'' old new s s' result))
+      → IfSome l (λ file. SearchesFile wanted bound query file tests g g'' old new s s' result)
+  opened_searched r new' t f f' l l' l'' g g' g'' place gated begun moved drawn more far done =
+      found_known t f f' l l' l'' g g' g'' place gated (subst (λ (q : AnyReader). BeginsKnown beginning (feed_of q.stage) l place gated) new' begun)
+      (subst (λ (q : AnyReader). MovedKnown (paths_left q.stage) t (λ x. x) (feed_of q.stage) l f l') new' moved) (subst (λ (q : AnyReader). Draws (feed_of q.stage) f g g' l l') new' drawn) more far done
+
+  -- ---- where no call failed
+
+  whole_file : (file : List ℕ) (g g' : ℕ) → SearchesFile wanted bound query file tests g g' old new s s' result → (result ≡ outcomes.ReadFault → ⊥) → (result ≡ outcomes.GateFault → ⊥) → (result ≡ outcomes.WriteFault → ⊥)
+      → SearchesAll wanted query file tests old new result
+  whole_file file g g' done read gate write =
+      let seen : seen_in file (g' - g) result ≡ contents file = ap (λ (b : Bool). cond b (contents_of_part (g' - g) file) (contents file)) (no_read_fault result read) in
+      if_each (tests_asked (is_gated file || query.existing) tests)
+      (λ told. (result ≡ outcomes.ReadFault → g ≤ 2 ^ 63) → Searches (rule_of wanted query (is_gated file) told) bound (seen_in file (g' - g) result) old new s s' result)
+      (λ told. SearchesWhole (rule_of wanted query (is_gated file) told) (contents file) old new result)
+      (λ told known. searches_whole (rule_of wanted query (is_gated file) told) bound (contents file) old new s s' result
+      (subst (λ (z : ToCome). Searches (rule_of wanted query (is_gated file) told) bound z old new s s' result) seen (known (λ e. absurd (read e)))) read gate write)
+      done
+
+  exact_in : (found : Option (List ℕ)) (g g' : ℕ) (A B C : Type 0) → (result ≡ outcomes.ReadFault → A) → (result ≡ outcomes.GateFault → B) → (result ≡ outcomes.WriteFault → C)
+      → IfSome found (λ file. SearchesFile wanted bound query file tests g g' old new s s' result) → IfSome found (λ file. (A → ⊥) → (B → ⊥) → (C → ⊥) → SearchesAll wanted query file tests old new result)
+  exact_in None g g' A B C read gate write done = tt
+  exact_in (Some file) g g' A B C read gate write done = λ unread unasked unwritten. whole_file file g g' done (λ e. unread (read e)) (λ e. unasked (gate e)) (λ e. unwritten (write e))
+
+  pub exact_known : (files : Option Files) (name : List ℕ) (left : Option (List ℕ)) (g g' : ℕ) (A B C : Type 0) → (result ≡ outcomes.ReadFault → A) → (result ≡ outcomes.GateFault → B) → (result ≡ outcomes.WriteFault → C)
+      → (o : Opened) → o ≡ Found → OpensAs files name (Ok o) left → IfSome left (λ file. SearchesFile wanted bound query file tests g g' old new s s' result)
+      → IfSome files (λ files. IfSome (map.get files name) (λ file. (A → ⊥) → (B → ⊥) → (C → ⊥) → SearchesAll wanted query file tests old new result))
+  exact_known None name left g g' A B C read gate write o found opened done = tt
+  exact_known (Some files) name left g g' A B C read gate write o found opened done =
+      let was : OpensAs (Some files) name (Ok Found) left = subst (λ (x : Opened). OpensAs (Some files) name (Ok x) left) found opened in
+      subst (λ (o : Option (List ℕ)). IfSome o (λ file. (A → ⊥) → (B → ⊥) → (C → ⊥) → SearchesAll wanted query file tests old new result)) was.1 (exact_in left g g' A B C read gate write done)
+
+-- ---- whatever the gate answers
+
+module _ (bound : List ℕ → ℕ) (s s' : ℕ) (result : Outcome) where
+  ended_file : (l : Option (List ℕ)) → EndsWithinKnown bound rest_in (empty_at 0) l s s' result → IfSome l (λ file. EndsWithin bound (contents file) s s' result)
+  ended_file None done = tt
+  ended_file (Some file) done = subst (λ (w : Window). EndsWithin bound (rest_in w) s s' result) (whole_window file) done
+
+  pub ended_searched : (r : AnyReader) → r ≡ fresh → (t : Window → ToCome) (f : FeedState) (l l' : Option (List ℕ)) → MovedKnown (paths_left r.stage) t (λ x. x) (feed_of r.stage) l f l' → EndsWithinKnown bound t f l' s s' result
+      → IfSome l (λ file. EndsWithin bound (contents file) s s' result)
+  ended_searched r new t f l l' moved done =
+      ended_file l (ended_later bound rest_in t (empty_at 0) f l l' s s' result (subst (λ (q : AnyReader). MovedKnown (paths_left q.stage) t (λ x. x) (feed_of q.stage) l f l') new moved) done)
+
+  pub ended_unopened : is_by_end result ≡ false → s' ≡ s → (files : Option Files) (name : List ℕ) → IfSome files (λ files. IfSome (map.get files name) (λ file. EndsWithin bound (contents file) s s' result))
+  ended_unopened early same None name = tt
+  ended_unopened early same (Some files) name = if_some (map.get files name) (λ file. EndsWithin bound (contents file) s s' result) (λ file. record { ends = λ by. absurd (on_off (sym by ∙ early)); within = omega (arith, same) })
+
+pub ended_begin : (bound : List ℕ → ℕ) (s : ℕ) (r : AnyReader) → r ≡ fresh → (fault : DbFault) (l l' : Option (List ℕ)) → EndsKnown (paths_left r.stage) (no_paths 0 0) (feed_of r.stage) l l' (Err fault)
+    → IfSome l (λ file. EndsWithin bound (contents file) s s (outcome_of (Err fault)))
+ended_begin bound s r new fault l l' ends =
+    ended_file bound s s (outcome_of (Err fault)) l
+    (ended_end bound rest_in rest_in (empty_at 0) (empty_at 0) [] l l l' s s (omega arith) 0 0 (Err fault) (moved_none rest_in (empty_at 0) l)
+    (subst (λ (q : AnyReader). EndsKnown (paths_left q.stage) (no_paths 0 0) (feed_of q.stage) l l' (Err fault)) new ends))

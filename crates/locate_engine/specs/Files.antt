@@ -1,26 +1,26 @@
--- What a search sees of a file.
-use Rattle.std.specs.Prelude.{ℕ, Bool, false, List, Option, Some, None, Err, if◌then◌else◌}
-use Rattle.byte_feed.specs.declared.damage.DbFault.TheVariants.{NotADatabase}
-use Rattle.byte_feed.specs.Front.{readable}
-use Rattle.byte_feed.specs.Paths.{ToCome, no_paths, beginning_of, contents, contents_of_part}
-use Rattle.mlocate_db.specs.Items.{mlocate}
+-- What a search does with a file.
+use Rattle.std.specs.Prelude.{◌≡◌, ℕ, ◌-◌, ◌^◌, ◌≤◌, Bool, ◌||◌, List, Option, IfSome, if◌then◌else◌}
+use Rattle.loc_outside.specs.Gates.{Tests}
+use Rattle.byte_feed.specs.Paths.{ToCome}
+use Rattle.any_db.specs.Formats.{contents, contents_of_part, is_gated}
 use Rattle.locate_engine.specs.declared.outcome.Outcome.{Outcome}
-use Rattle.locate_engine.specs.Searched.{is_read_fault}
+use Rattle.locate_engine.specs.declared.outcome.Outcome.TheVariants as outcomes
+use Rattle.locate_engine.specs.declared.query.Query.{Query}
+use Rattle.locate_engine.specs.Passing.{rule_of, tests_asked}
+use Rattle.locate_engine.specs.Searched.{Stand, is_read_fault, Searches, SearchesWhole}
 
--- the flag of a header that is there
-abbrev pub flag_in : Option (ℕ × Bool) → Bool
-flag_in None = false
-flag_in (Some first) = first.1
-
--- What may be shown of a file's paths. A database whose paths are shown only to those who may list their directories is
--- none for a search that cannot ask who may.
-abbrev pub shown_in : List ℕ → ToCome → ToCome
-shown_in file seen = if flag_in (beginning_of mlocate (readable file)) then no_paths 0 0 (Err NotADatabase) else seen
-
--- the paths of an mlocate database
-abbrev pub paths_in : List ℕ → ToCome
-paths_in file = shown_in file (contents mlocate file)
-
--- the same, or, where the reader failed, those that are whole in the bytes given
+-- the paths of the file, or, where the reader failed, those that are whole in the bytes given
 abbrev pub seen_in : List ℕ → ℕ → Outcome → ToCome
-seen_in file given result = shown_in file (if is_read_fault result then contents_of_part mlocate given file else contents mlocate file)
+seen_in file given result = if is_read_fault result then contents_of_part given file else contents file
+
+-- What a search did with a file, where the gate tells its tests, or none is asked. The bytes given on a failed read are
+-- those by which their count rose, which stands still only near 2^64.
+abbrev pub SearchesFile : (List ℕ → Bool) → (List ℕ → ℕ) → Query → List ℕ → Option Tests → ℕ → ℕ → Stand → Stand → ℕ → ℕ → Outcome → Type 0
+SearchesFile wanted bound query file tests given given' old new steps steps' result =
+    IfSome (tests_asked (is_gated file || query.existing) tests) (λ told. (result ≡ outcomes.ReadFault → given ≤ 2 ^ 63) →
+    Searches (rule_of wanted query (is_gated file) told) bound (seen_in file (given' - given) result) old new steps steps' result)
+
+-- the same, where no call failed
+abbrev pub SearchesAll : (List ℕ → Bool) → Query → List ℕ → Option Tests → Stand → Stand → Outcome → Type 0
+SearchesAll wanted query file tests old new result =
+    IfSome (tests_asked (is_gated file || query.existing) tests) (λ told. SearchesWhole (rule_of wanted query (is_gated file) told) (contents file) old new result)

@@ -14,11 +14,15 @@ pub enum Outcome {
     NotADatabase,
     /// All paths before the damage were searched.
     Damage(Damage),
-    /// The reader failed: the paths that it had given were searched.
+    /// The reader failed: the paths that are whole in the bytes it had given were searched.
     ReadFault,
+    /// A call of the gate failed: the paths before the one in hand were searched.
+    GateFault,
     /// The file has 2^40 bytes or more: the paths below were searched.
     TooLarge,
-    /// A write of a path or a separator failed.
+    /// As many paths were counted as the query asks for.
+    LimitReached,
+    /// A write of a path or a separator failed: the path is not counted.
     WriteFault,
 }
 

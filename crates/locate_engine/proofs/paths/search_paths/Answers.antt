@@ -1,12 +1,12 @@
-use Rattle.std.proofs.Common.{◌≡◌, ◌++◌, ◌∷◌, [], List, ℕ, Bool, true, false, refl, sym, ap, subst, ◌∙◌, append_assoc, arith}
-use Rattle.std.proofs.KnownBytes.{Appends-nil}
-use Rattle.std.specs.Io.KnownBytes.{Appends}
-use Rattle.loc_outside.specs.Outside.{AppendsPart}
+use Rattle.std.proofs.Common.{◌≡◌, ◌++◌, ◌∷◌, [], None, Ok, List, ℕ, Bool, true, false, ◌≤◌, ◌+◌, refl, sym, ap, ◌∙◌, append_assoc, arith}
 use Rattle.byte_feed.specs.Paths.{PathAt, after_paths, ToCome}
 use Rattle.byte_feed.proofs.Draws.{draws_none, draws_then}
 use Rattle.byte_feed.proofs.Rests.{moved_none, moved_then, moved_same}
-use Rattle.locate_engine.specs.Searched.{line_of}
-use Rattle.locate_engine.proofs.Lines.{lines_more, searches_part, line_yes, line_no, matching_yes, matching_no, steps_one}
+use Rattle.locate_engine.specs.Passing.{rule_of}
+use Rattle.locate_engine.specs.Searched.{Stand, stand, steps_over}
+use Rattle.locate_engine.specs.declared.asking.Step.TheVariants as steps
+use Rattle.locate_engine.proofs.Gone.{steps_one}
+use Rattle.locate_engine.proofs.Exits.{ended_mid, ended_end, told_if, takes_by, so_far_none, step_yes, step_no, searches_limit, searches_gate, searches_write, searches_end}
 use Rattle.locate_engine.proofs.paths.search_paths.Goals as goal
 
 -- one path more, after those before
@@ -16,15 +16,27 @@ joined given p z = ap (λ (ps : List PathAt). record { paths = ps; ending = z.en
 pub paths-init : goal.paths-init
 paths-init g c = record {
   live = c.requires.live;
-  printed = ([], moved_none _ _ _, Appends-nil _, omega arith, omega arith);
+  gone = (
+    [],
+    moved_none _ _ _,
+    omega arith,
+    λ told tells one. so_far_none (rule_of (g.M.Matcher.test c.args.matcher.now) c.args.query.now (g.P.PathStream.is_gated c.args.stream.now) told) (g.M.Matcher.bound c.args.matcher.now) (g.P.PathStream.to_come c.args.stream.now) (g.P.PathStream.feed c.args.stream.now) (g.S.Source.left c.args.src.now) (record { heads = None; shown = false }) _ _ refl,
+  );
   rises = omega arith;
   within = omega arith;
+  below = c.requires.below;
+  only_counted = λ _. refl;
   steps = omega arith;
   drawn = draws_none _ _ _;
   src = g.met.S.Source.keeps_itself _;
+  gate = g.met.G.Gate.keeps_itself _;
   sink = g.met.K.Sink.keeps_itself _;
   read = omega arith;
+  answered = omega arith;
   written = omega arith;
+  asked = omega arith;
+  gated = refl;
+  tests = refl;
   test = refl;
   bound = refl;
 }
@@ -35,49 +47,128 @@ returns-in-Err-clause-drawn g c = draws_then _ _ _ _ _ _ _ _ _ c.paths.invariant
 pub returns-then-not-more-clause-drawn : goal.returns-then-not-more-clause-drawn
 returns-then-not-more-clause-drawn g c = draws_then _ _ _ _ _ _ _ _ _ c.paths.invariant.drawn c.in-Ok.ensures.drawn
 
-pub returns-in_default-clause-drawn : goal.returns-in_default-clause-drawn
-returns-in_default-clause-drawn g c = draws_then _ _ _ _ _ _ _ _ _ c.paths.invariant.drawn c.in-Ok.ensures.drawn
+pub returns-in-LimitReached-clause-drawn : goal.returns-in-LimitReached-clause-drawn
+returns-in-LimitReached-clause-drawn g c = draws_then _ _ _ _ _ _ _ _ _ c.paths.invariant.drawn c.in-Ok.ensures.drawn
 
-pub returns-in_default-clause-searched : goal.returns-in_default-clause-searched
-returns-in_default-clause-searched g c =
-    let wanted : List ℕ → Bool = g.M.Matcher.test c.args.matcher.now in
-    let before = c.paths.invariant.printed in
-    let p = g.P.PathStream.found c.next_path.new.self in
-    let one = c.in-Ok.ensures.path c.if-not-more.false in
-    let passed : wanted p.text ≡ true = ap wanted (sym c.path.ensures) ∙ ap (λ (t : List ℕ → Bool). t c.path.result.now) (sym c.paths.invariant.test) ∙ sym c.wants.ensures.answer ∙ c.if-wants.true in
-    let cost : g.M.Matcher.bound c.paths.matcher c.path.result.now ≡ g.M.Matcher.bound c.args.matcher.now p.text = ap (λ (b : List ℕ → ℕ). b c.path.result.now) c.paths.invariant.bound ∙ ap (g.M.Matcher.bound c.args.matcher.now) c.path.ensures in
-    let part : AppendsPart (g.K.Sink.taken c.paths.out) (g.K.Sink.taken c.put_line.new.sink) (line_of wanted c.args.query.now.separator p) = subst (AppendsPart _ _) (line_yes wanted c.args.query.now.separator p _ c.path-then-wants.ensures passed) c.in_default.ensures.err in
-    searches_part wanted (g.M.Matcher.bound c.args.matcher.now) c.args.query.now.separator _ _ before.0 p _ _ _ _ _ _ _ _ _ _ _
-    (moved_same _ _ _ _ _ _ _ _ (joined before.0 p) (moved_then _ _ _ _ _ _ _ _ _ _ _ before.1 one)) before.2 part passed before.3
-    (omega (arith, before.4, c.wants.ensures.within, cost, steps_one (g.M.Matcher.bound c.args.matcher.now) before.0 p))
+pub returns-in-GateFault-clause-drawn : goal.returns-in-GateFault-clause-drawn
+returns-in-GateFault-clause-drawn g c = draws_then _ _ _ _ _ _ _ _ _ c.paths.invariant.drawn c.in-Ok.ensures.drawn
 
-pub paths-preserved-then-wants : goal.paths-preserved-then-wants
-paths-preserved-then-wants g c =
+pub returns-in-WriteFault-clause-drawn : goal.returns-in-WriteFault-clause-drawn
+returns-in-WriteFault-clause-drawn g c = draws_then _ _ _ _ _ _ _ _ _ c.paths.invariant.drawn c.in-Ok.ensures.drawn
+
+pub returns-in-Err-clause-searched : goal.returns-in-Err-clause-searched
+returns-in-Err-clause-searched g c =
+    let before = c.paths.invariant.gone in
+    rw c.outcome_at.ensures
+    (λ one. told_if _ _ _ (λ told tells.
+    searches_end (rule_of (g.M.Matcher.test c.args.matcher.now) c.args.query.now (g.P.PathStream.is_gated c.args.stream.now) told) (g.M.Matcher.bound c.args.matcher.now) _ _ _ _ c.paths.invariant.below
+    _ _ _ _ before.0 c.paths.block _ _ _ _ _ _ before.1 c.in-Err.ensures.err (before.3 told tells one)))
+
+pub returns-then-not-more-clause-searched : goal.returns-then-not-more-clause-searched
+returns-then-not-more-clause-searched g c =
+    let before = c.paths.invariant.gone in
+    λ one. told_if _ _ _ (λ told tells.
+    searches_end (rule_of (g.M.Matcher.test c.args.matcher.now) c.args.query.now (g.P.PathStream.is_gated c.args.stream.now) told) (g.M.Matcher.bound c.args.matcher.now) _ _ _ _ c.paths.invariant.below
+    _ _ _ _ before.0 c.paths.block _ _ _ _ _ _ before.1 (c.in-Ok.ensures.end (ap (λ (b : Bool). Ok b) c.if-not-more.true)) (before.3 told tells one))
+
+pub returns-in-LimitReached-clause-searched : goal.returns-in-LimitReached-clause-searched
+returns-in-LimitReached-clause-searched g c =
     let wanted : List ℕ → Bool = g.M.Matcher.test c.args.matcher.now in
-    let before = c.paths.invariant.printed in
-    let p = g.P.PathStream.found c.next_path.new.self in
-    let one = c.in-Ok.ensures.path c.if-not-more.false in
-    let passed : wanted p.text ≡ true = ap wanted (sym c.path.ensures) ∙ ap (λ (t : List ℕ → Bool). t c.path.result.now) (sym c.paths.invariant.test) ∙ sym c.wants.ensures.answer ∙ c.if-wants.true in
-    let cost : g.M.Matcher.bound c.paths.matcher c.path.result.now ≡ g.M.Matcher.bound c.args.matcher.now p.text = ap (λ (b : List ℕ → ℕ). b c.path.result.now) c.paths.invariant.bound ∙ ap (g.M.Matcher.bound c.args.matcher.now) c.path.ensures in
-    let put : Appends (g.K.Sink.taken c.paths.out) (g.K.Sink.taken c.put_line.new.sink) (line_of wanted c.args.query.now.separator p) = subst (Appends _ _) (line_yes wanted c.args.query.now.separator p _ c.path-then-wants.ensures passed) c.in-Ok-put_line.ensures.ok in
+    let bound : List ℕ → ℕ = g.M.Matcher.bound c.args.matcher.now in
+    let gated : Bool = g.P.PathStream.is_gated c.args.stream.now in
+    let before = c.paths.invariant.gone in
+    let p : PathAt = g.P.PathStream.found c.next_path.new.self in
+    let found = c.in-Ok.ensures.path c.if-not-more.false in
+    let answer : wanted p.text ≡ true = ap wanted (sym c.path.ensures) ∙ ap (λ (t : List ℕ → Bool). t c.path.result.now) (sym c.paths.invariant.test) ∙ sym c.wants.ensures.answer ∙ c.if-wants.true in
+    let dear : g.M.Matcher.bound c.paths.matcher c.path.result.now ≡ bound p.text = ap (λ (b : List ℕ → ℕ). b c.path.result.now) c.paths.invariant.bound ∙ ap bound c.path.ensures in
+    let cost : c.wants.new.steps ≤ c.paths.steps + bound p.text = omega (arith, c.wants.ensures.within, dear) in
+    let dearer : c.wants.new.steps ≤ c.args.steps.now + steps_over bound (before.0 ++ p ∷ []) = omega (arith, before.2, cost, steps_one bound before.0 p) in
+    let moved = moved_same _ _ _ _ _ _ _ _ (joined before.0 p) (moved_then _ _ _ _ _ _ _ _ _ _ _ before.1 found) in
+    let old : Stand = stand (g.K.Sink.taken c.paths.out) c.paths.tally.matched (g.G.Gate.asks c.paths.gate) in
+    let new : Stand = stand (g.K.Sink.taken c.take_path.new.out) c.take_path.new.tally.matched (g.G.Gate.asks c.take_path.new.gate) in
+    let took = takes_by gated (g.P.PathStream.is_gated c.next_path.new.self) (g.G.Gate.tests c.args.gate.now) (g.G.Gate.tests c.paths.gate) c.args.query.now c.paths.block c.take_path.new.block p old new steps.LimitReached
+    (c.in-Ok.ensures.gate ∙ c.paths.invariant.gated) c.paths.invariant.tests c.in-LimitReached.ensures.takes in
+    λ one. told_if _ _ _ (λ told tells. searches_limit (rule_of wanted c.args.query.now gated told) bound _ _ _ _ before.0 p c.paths.block _ old _ _ _ cost answer _ _ c.take_path.new.block new moved one (before.3 told tells one) (took wanted told tells) (c.in-LimitReached.ensures.limit refl))
+
+pub returns-in-GateFault-clause-searched : goal.returns-in-GateFault-clause-searched
+returns-in-GateFault-clause-searched g c =
+    let wanted : List ℕ → Bool = g.M.Matcher.test c.args.matcher.now in
+    let bound : List ℕ → ℕ = g.M.Matcher.bound c.args.matcher.now in
+    let gated : Bool = g.P.PathStream.is_gated c.args.stream.now in
+    let before = c.paths.invariant.gone in
+    let p : PathAt = g.P.PathStream.found c.next_path.new.self in
+    let found = c.in-Ok.ensures.path c.if-not-more.false in
+    let answer : wanted p.text ≡ true = ap wanted (sym c.path.ensures) ∙ ap (λ (t : List ℕ → Bool). t c.path.result.now) (sym c.paths.invariant.test) ∙ sym c.wants.ensures.answer ∙ c.if-wants.true in
+    let dear : g.M.Matcher.bound c.paths.matcher c.path.result.now ≡ bound p.text = ap (λ (b : List ℕ → ℕ). b c.path.result.now) c.paths.invariant.bound ∙ ap bound c.path.ensures in
+    let cost : c.wants.new.steps ≤ c.paths.steps + bound p.text = omega (arith, c.wants.ensures.within, dear) in
+    let dearer : c.wants.new.steps ≤ c.args.steps.now + steps_over bound (before.0 ++ p ∷ []) = omega (arith, before.2, cost, steps_one bound before.0 p) in
+    let moved = moved_same _ _ _ _ _ _ _ _ (joined before.0 p) (moved_then _ _ _ _ _ _ _ _ _ _ _ before.1 found) in
+    let old : Stand = stand (g.K.Sink.taken c.paths.out) c.paths.tally.matched (g.G.Gate.asks c.paths.gate) in
+    let new : Stand = stand (g.K.Sink.taken c.take_path.new.out) c.take_path.new.tally.matched (g.G.Gate.asks c.take_path.new.gate) in
+    let took = takes_by gated (g.P.PathStream.is_gated c.next_path.new.self) (g.G.Gate.tests c.args.gate.now) (g.G.Gate.tests c.paths.gate) c.args.query.now c.paths.block c.take_path.new.block p old new steps.GateFault
+    (c.in-Ok.ensures.gate ∙ c.paths.invariant.gated) c.paths.invariant.tests c.in-GateFault.ensures.takes in
+    λ one. told_if _ _ _ (λ told tells. searches_gate (rule_of wanted c.args.query.now gated told) bound _ _ _ _ before.0 p c.paths.block _ old _ _ _ cost answer _ _ new moved (before.3 told tells one) (took wanted told tells))
+
+pub returns-in-WriteFault-clause-searched : goal.returns-in-WriteFault-clause-searched
+returns-in-WriteFault-clause-searched g c =
+    let wanted : List ℕ → Bool = g.M.Matcher.test c.args.matcher.now in
+    let bound : List ℕ → ℕ = g.M.Matcher.bound c.args.matcher.now in
+    let gated : Bool = g.P.PathStream.is_gated c.args.stream.now in
+    let before = c.paths.invariant.gone in
+    let p : PathAt = g.P.PathStream.found c.next_path.new.self in
+    let found = c.in-Ok.ensures.path c.if-not-more.false in
+    let answer : wanted p.text ≡ true = ap wanted (sym c.path.ensures) ∙ ap (λ (t : List ℕ → Bool). t c.path.result.now) (sym c.paths.invariant.test) ∙ sym c.wants.ensures.answer ∙ c.if-wants.true in
+    let dear : g.M.Matcher.bound c.paths.matcher c.path.result.now ≡ bound p.text = ap (λ (b : List ℕ → ℕ). b c.path.result.now) c.paths.invariant.bound ∙ ap bound c.path.ensures in
+    let cost : c.wants.new.steps ≤ c.paths.steps + bound p.text = omega (arith, c.wants.ensures.within, dear) in
+    let dearer : c.wants.new.steps ≤ c.args.steps.now + steps_over bound (before.0 ++ p ∷ []) = omega (arith, before.2, cost, steps_one bound before.0 p) in
+    let moved = moved_same _ _ _ _ _ _ _ _ (joined before.0 p) (moved_then _ _ _ _ _ _ _ _ _ _ _ before.1 found) in
+    let old : Stand = stand (g.K.Sink.taken c.paths.out) c.paths.tally.matched (g.G.Gate.asks c.paths.gate) in
+    let new : Stand = stand (g.K.Sink.taken c.take_path.new.out) c.take_path.new.tally.matched (g.G.Gate.asks c.take_path.new.gate) in
+    let took = takes_by gated (g.P.PathStream.is_gated c.next_path.new.self) (g.G.Gate.tests c.args.gate.now) (g.G.Gate.tests c.paths.gate) c.args.query.now c.paths.block c.take_path.new.block p old new steps.WriteFault
+    (c.in-Ok.ensures.gate ∙ c.paths.invariant.gated) c.paths.invariant.tests c.in-WriteFault.ensures.takes in
+    λ one. told_if _ _ _ (λ told tells. searches_write (rule_of wanted c.args.query.now gated told) bound _ _ _ _ before.0 p c.paths.block _ old _ _ _ cost answer _ _ new moved (before.3 told tells one) (took wanted told tells))
+
+pub paths-preserved-in-On : goal.paths-preserved-in-On
+paths-preserved-in-On g c =
+    let wanted : List ℕ → Bool = g.M.Matcher.test c.args.matcher.now in
+    let bound : List ℕ → ℕ = g.M.Matcher.bound c.args.matcher.now in
+    let gated : Bool = g.P.PathStream.is_gated c.args.stream.now in
+    let before = c.paths.invariant.gone in
+    let p : PathAt = g.P.PathStream.found c.next_path.new.self in
+    let found = c.in-Ok.ensures.path c.if-not-more.false in
+    let answer : wanted p.text ≡ true = ap wanted (sym c.path.ensures) ∙ ap (λ (t : List ℕ → Bool). t c.path.result.now) (sym c.paths.invariant.test) ∙ sym c.wants.ensures.answer ∙ c.if-wants.true in
+    let dear : g.M.Matcher.bound c.paths.matcher c.path.result.now ≡ bound p.text = ap (λ (b : List ℕ → ℕ). b c.path.result.now) c.paths.invariant.bound ∙ ap bound c.path.ensures in
+    let cost : c.wants.new.steps ≤ c.paths.steps + bound p.text = omega (arith, c.wants.ensures.within, dear) in
+    let dearer : c.wants.new.steps ≤ c.args.steps.now + steps_over bound (before.0 ++ p ∷ []) = omega (arith, before.2, cost, steps_one bound before.0 p) in
+    let moved = moved_same _ _ _ _ _ _ _ _ (joined before.0 p) (moved_then _ _ _ _ _ _ _ _ _ _ _ before.1 found) in
+    let old : Stand = stand (g.K.Sink.taken c.paths.out) c.paths.tally.matched (g.G.Gate.asks c.paths.gate) in
+    let new : Stand = stand (g.K.Sink.taken c.take_path.new.out) c.take_path.new.tally.matched (g.G.Gate.asks c.take_path.new.gate) in
+    let took = takes_by gated (g.P.PathStream.is_gated c.next_path.new.self) (g.G.Gate.tests c.args.gate.now) (g.G.Gate.tests c.paths.gate) c.args.query.now c.paths.block c.take_path.new.block p old new steps.On
+    (c.in-Ok.ensures.gate ∙ c.paths.invariant.gated) c.paths.invariant.tests c.in-On.ensures.takes in
     let grows = c.in-Ok.ensures.grows c.if-not-more.false in
     record {
       live = c.in-Ok.ensures.live ∙ c.if-not-more.false;
-      printed = (
+      gone = (
         before.0 ++ p ∷ [],
-        moved_same _ _ _ _ _ _ _ _ (joined before.0 p) (moved_then _ _ _ _ _ _ _ _ _ _ _ before.1 one),
-        lines_more wanted c.args.query.now.separator before.0 p _ _ _ before.2 put,
-        omega (arith, before.3, matching_yes wanted before.0 p passed),
-        omega (arith, before.4, c.wants.ensures.within, cost, steps_one (g.M.Matcher.bound c.args.matcher.now) before.0 p),
+        moved,
+        dearer,
+        λ told tells one. step_yes (rule_of wanted c.args.query.now gated told) bound _ _ _ _ before.0 p c.paths.block _ old _ _ _ cost answer _ _ c.take_path.new.block new moved one (before.3 told tells one) (took wanted told tells),
       );
-      rises = omega (arith, c.paths.invariant.rises);
-      within = omega (arith, c.paths.invariant.within, grows);
+      rises = omega (arith, c.paths.invariant.rises, c.in-On.ensures.rises);
+      within = omega (arith, c.paths.invariant.within, c.in-On.ensures.within, grows);
+      below = c.in-On.ensures.below (λ e. absurd cc);
+      only_counted = λ only. c.in-On.ensures.only_counted only ∙ c.paths.invariant.only_counted only;
       steps = omega (arith, c.paths.invariant.steps, c.wants.ensures.later);
       drawn = draws_then _ _ _ _ _ _ _ _ _ c.paths.invariant.drawn c.in-Ok.ensures.drawn;
       src = g.met.S.Source.keeps_on _ _ _ c.paths.invariant.src c.in-Ok.ensures.kept;
-      sink = g.met.K.Sink.keeps_on _ _ _ c.paths.invariant.sink c.in-Ok-put_line.ensures.kept;
+      gate = g.met.G.Gate.keeps_on _ _ _ c.paths.invariant.gate c.in-On.ensures.gate_kept;
+      sink = g.met.K.Sink.keeps_on _ _ _ c.paths.invariant.sink c.in-On.ensures.out_kept;
       read = omega (arith, c.paths.invariant.read, c.in-Ok.ensures.later);
-      written = omega (arith, c.paths.invariant.written, c.in-Ok-put_line.ensures.cause.later);
+      answered = omega (arith, c.paths.invariant.answered, c.in-On.ensures.gate_later);
+      written = omega (arith, c.paths.invariant.written, c.in-On.ensures.out_later);
+      asked = omega (arith, c.paths.invariant.asked, c.in-On.ensures.asks_rise);
+      gated = c.in-Ok.ensures.gate ∙ c.paths.invariant.gated;
+      tests = g.met.G.Gate.keeps_tests _ _ c.in-On.ensures.gate_kept ∙ c.paths.invariant.tests;
       test = c.wants.ensures.same ∙ c.paths.invariant.test;
       bound = c.wants.ensures.same_bound ∙ c.paths.invariant.bound;
     }
@@ -85,29 +176,97 @@ paths-preserved-then-wants g c =
 pub paths-preserved : goal.paths-preserved
 paths-preserved g c =
     let wanted : List ℕ → Bool = g.M.Matcher.test c.args.matcher.now in
-    let before = c.paths.invariant.printed in
-    let p = g.P.PathStream.found c.next_path.new.self in
-    let one = c.in-Ok.ensures.path c.if-not-more.false in
-    let failed : wanted p.text ≡ false = ap wanted (sym c.path.ensures) ∙ ap (λ (t : List ℕ → Bool). t c.path.result.now) (sym c.paths.invariant.test) ∙ sym c.wants.ensures.answer ∙ c.if-wants.false in
-    let cost : g.M.Matcher.bound c.paths.matcher c.path.result.now ≡ g.M.Matcher.bound c.args.matcher.now p.text = ap (λ (b : List ℕ → ℕ). b c.path.result.now) c.paths.invariant.bound ∙ ap (g.M.Matcher.bound c.args.matcher.now) c.path.ensures in
+    let bound : List ℕ → ℕ = g.M.Matcher.bound c.args.matcher.now in
+    let gated : Bool = g.P.PathStream.is_gated c.args.stream.now in
+    let before = c.paths.invariant.gone in
+    let p : PathAt = g.P.PathStream.found c.next_path.new.self in
+    let found = c.in-Ok.ensures.path c.if-not-more.false in
+    let answer : wanted p.text ≡ false = ap wanted (sym c.path.ensures) ∙ ap (λ (t : List ℕ → Bool). t c.path.result.now) (sym c.paths.invariant.test) ∙ sym c.wants.ensures.answer ∙ c.if-wants.false in
+    let dear : g.M.Matcher.bound c.paths.matcher c.path.result.now ≡ bound p.text = ap (λ (b : List ℕ → ℕ). b c.path.result.now) c.paths.invariant.bound ∙ ap bound c.path.ensures in
+    let cost : c.wants.new.steps ≤ c.paths.steps + bound p.text = omega (arith, c.wants.ensures.within, dear) in
+    let dearer : c.wants.new.steps ≤ c.args.steps.now + steps_over bound (before.0 ++ p ∷ []) = omega (arith, before.2, cost, steps_one bound before.0 p) in
+    let moved = moved_same _ _ _ _ _ _ _ _ (joined before.0 p) (moved_then _ _ _ _ _ _ _ _ _ _ _ before.1 found) in
     let grows = c.in-Ok.ensures.grows c.if-not-more.false in
     record {
       live = c.in-Ok.ensures.live ∙ c.if-not-more.false;
-      printed = (
+      gone = (
         before.0 ++ p ∷ [],
-        moved_same _ _ _ _ _ _ _ _ (joined before.0 p) (moved_then _ _ _ _ _ _ _ _ _ _ _ before.1 one),
-        lines_more wanted c.args.query.now.separator before.0 p _ _ _ before.2 (line_no wanted c.args.query.now.separator p _ failed),
-        omega (arith, before.3, matching_no wanted before.0 p failed),
-        omega (arith, before.4, c.wants.ensures.within, cost, steps_one (g.M.Matcher.bound c.args.matcher.now) before.0 p),
+        moved,
+        dearer,
+        λ told tells one. step_no (rule_of wanted c.args.query.now gated told) bound (g.P.PathStream.to_come c.args.stream.now) (g.P.PathStream.to_come c.next_path.new.self) (g.P.PathStream.feed c.args.stream.now) (g.P.PathStream.feed c.next_path.new.self) before.0 p c.paths.block
+            (stand (g.K.Sink.taken c.args.out.now) c.args.tally.now.matched (g.G.Gate.asks c.args.gate.now)) (stand (g.K.Sink.taken c.paths.out) c.paths.tally.matched (g.G.Gate.asks c.paths.gate)) c.args.steps.now c.paths.steps c.wants.new.steps cost (g.S.Source.left c.args.src.now) answer (before.3 told tells one),
       );
-      rises = omega (arith, c.paths.invariant.rises);
+      rises = c.paths.invariant.rises;
       within = omega (arith, c.paths.invariant.within, grows);
+      below = c.paths.invariant.below;
+      only_counted = c.paths.invariant.only_counted;
       steps = omega (arith, c.paths.invariant.steps, c.wants.ensures.later);
       drawn = draws_then _ _ _ _ _ _ _ _ _ c.paths.invariant.drawn c.in-Ok.ensures.drawn;
       src = g.met.S.Source.keeps_on _ _ _ c.paths.invariant.src c.in-Ok.ensures.kept;
+      gate = c.paths.invariant.gate;
       sink = c.paths.invariant.sink;
       read = omega (arith, c.paths.invariant.read, c.in-Ok.ensures.later);
+      answered = c.paths.invariant.answered;
       written = c.paths.invariant.written;
+      asked = c.paths.invariant.asked;
+      gated = c.in-Ok.ensures.gate ∙ c.paths.invariant.gated;
+      tests = c.paths.invariant.tests;
       test = c.wants.ensures.same ∙ c.paths.invariant.test;
       bound = c.wants.ensures.same_bound ∙ c.paths.invariant.bound;
     }
+
+pub returns-in-Err-clause-ended : goal.returns-in-Err-clause-ended
+returns-in-Err-clause-ended g c =
+    let before = c.paths.invariant.gone in
+    rw c.outcome_at.ensures (ended_end (g.M.Matcher.bound c.args.matcher.now) (g.P.PathStream.to_come c.args.stream.now) _ (g.P.PathStream.feed c.args.stream.now) _ before.0 (g.S.Source.left c.args.src.now) _ _ c.args.steps.now c.paths.steps before.2 _ _ _ before.1 c.in-Err.ensures.err)
+
+pub returns-then-not-more-clause-ended : goal.returns-then-not-more-clause-ended
+returns-then-not-more-clause-ended g c =
+    let before = c.paths.invariant.gone in
+    ended_end (g.M.Matcher.bound c.args.matcher.now) (g.P.PathStream.to_come c.args.stream.now) _ (g.P.PathStream.feed c.args.stream.now) _ before.0 (g.S.Source.left c.args.src.now) _ _ c.args.steps.now c.paths.steps before.2 _ _ _ before.1
+    (c.in-Ok.ensures.end (ap (λ (b : Bool). Ok b) c.if-not-more.true))
+
+pub returns-in-LimitReached-clause-ended : goal.returns-in-LimitReached-clause-ended
+returns-in-LimitReached-clause-ended g c =
+    let wanted : List ℕ → Bool = g.M.Matcher.test c.args.matcher.now in
+    let bound : List ℕ → ℕ = g.M.Matcher.bound c.args.matcher.now in
+    let gated : Bool = g.P.PathStream.is_gated c.args.stream.now in
+    let before = c.paths.invariant.gone in
+    let p : PathAt = g.P.PathStream.found c.next_path.new.self in
+    let found = c.in-Ok.ensures.path c.if-not-more.false in
+    let answer : wanted p.text ≡ true = ap wanted (sym c.path.ensures) ∙ ap (λ (t : List ℕ → Bool). t c.path.result.now) (sym c.paths.invariant.test) ∙ sym c.wants.ensures.answer ∙ c.if-wants.true in
+    let dear : g.M.Matcher.bound c.paths.matcher c.path.result.now ≡ bound p.text = ap (λ (b : List ℕ → ℕ). b c.path.result.now) c.paths.invariant.bound ∙ ap bound c.path.ensures in
+    let cost : c.wants.new.steps ≤ c.paths.steps + bound p.text = omega (arith, c.wants.ensures.within, dear) in
+    let dearer : c.wants.new.steps ≤ c.args.steps.now + steps_over bound (before.0 ++ p ∷ []) = omega (arith, before.2, cost, steps_one bound before.0 p) in
+    let moved = moved_same _ _ _ _ _ _ _ _ (joined before.0 p) (moved_then _ _ _ _ _ _ _ _ _ _ _ before.1 found) in
+    ended_mid bound (g.P.PathStream.to_come c.args.stream.now) _ (g.P.PathStream.feed c.args.stream.now) _ (before.0 ++ p ∷ []) (g.S.Source.left c.args.src.now) _ c.args.steps.now c.wants.new.steps dearer _ moved refl
+
+pub returns-in-GateFault-clause-ended : goal.returns-in-GateFault-clause-ended
+returns-in-GateFault-clause-ended g c =
+    let wanted : List ℕ → Bool = g.M.Matcher.test c.args.matcher.now in
+    let bound : List ℕ → ℕ = g.M.Matcher.bound c.args.matcher.now in
+    let gated : Bool = g.P.PathStream.is_gated c.args.stream.now in
+    let before = c.paths.invariant.gone in
+    let p : PathAt = g.P.PathStream.found c.next_path.new.self in
+    let found = c.in-Ok.ensures.path c.if-not-more.false in
+    let answer : wanted p.text ≡ true = ap wanted (sym c.path.ensures) ∙ ap (λ (t : List ℕ → Bool). t c.path.result.now) (sym c.paths.invariant.test) ∙ sym c.wants.ensures.answer ∙ c.if-wants.true in
+    let dear : g.M.Matcher.bound c.paths.matcher c.path.result.now ≡ bound p.text = ap (λ (b : List ℕ → ℕ). b c.path.result.now) c.paths.invariant.bound ∙ ap bound c.path.ensures in
+    let cost : c.wants.new.steps ≤ c.paths.steps + bound p.text = omega (arith, c.wants.ensures.within, dear) in
+    let dearer : c.wants.new.steps ≤ c.args.steps.now + steps_over bound (before.0 ++ p ∷ []) = omega (arith, before.2, cost, steps_one bound before.0 p) in
+    let moved = moved_same _ _ _ _ _ _ _ _ (joined before.0 p) (moved_then _ _ _ _ _ _ _ _ _ _ _ before.1 found) in
+    ended_mid bound (g.P.PathStream.to_come c.args.stream.now) _ (g.P.PathStream.feed c.args.stream.now) _ (before.0 ++ p ∷ []) (g.S.Source.left c.args.src.now) _ c.args.steps.now c.wants.new.steps dearer _ moved refl
+
+pub returns-in-WriteFault-clause-ended : goal.returns-in-WriteFault-clause-ended
+returns-in-WriteFault-clause-ended g c =
+    let wanted : List ℕ → Bool = g.M.Matcher.test c.args.matcher.now in
+    let bound : List ℕ → ℕ = g.M.Matcher.bound c.args.matcher.now in
+    let gated : Bool = g.P.PathStream.is_gated c.args.stream.now in
+    let before = c.paths.invariant.gone in
+    let p : PathAt = g.P.PathStream.found c.next_path.new.self in
+    let found = c.in-Ok.ensures.path c.if-not-more.false in
+    let answer : wanted p.text ≡ true = ap wanted (sym c.path.ensures) ∙ ap (λ (t : List ℕ → Bool). t c.path.result.now) (sym c.paths.invariant.test) ∙ sym c.wants.ensures.answer ∙ c.if-wants.true in
+    let dear : g.M.Matcher.bound c.paths.matcher c.path.result.now ≡ bound p.text = ap (λ (b : List ℕ → ℕ). b c.path.result.now) c.paths.invariant.bound ∙ ap bound c.path.ensures in
+    let cost : c.wants.new.steps ≤ c.paths.steps + bound p.text = omega (arith, c.wants.ensures.within, dear) in
+    let dearer : c.wants.new.steps ≤ c.args.steps.now + steps_over bound (before.0 ++ p ∷ []) = omega (arith, before.2, cost, steps_one bound before.0 p) in
+    let moved = moved_same _ _ _ _ _ _ _ _ (joined before.0 p) (moved_then _ _ _ _ _ _ _ _ _ _ _ before.1 found) in
+    ended_mid bound (g.P.PathStream.to_come c.args.stream.now) _ (g.P.PathStream.feed c.args.stream.now) _ (before.0 ++ p ∷ []) (g.S.Source.left c.args.src.now) _ c.args.steps.now c.wants.new.steps dearer _ moved refl

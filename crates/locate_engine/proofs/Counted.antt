@@ -1,0 +1,298 @@
+-- What is counted of paths that are given one after another.
+use Rattle.std.proofs.Common.{append_assoc, ◌≡◌, ℕ, ◌+◌, ◌-◌, ◌^◌, ◌≤◌, Bool, true, false, cond, List, [], ◌∷◌, ◌++◌, length, take, drop, Option, Some, None, Ok, Err, IsTrue, IfSome, refl, sym, ap, subst, ◌∙◌, append-nil, length-append, length-drop, arith}
+use Rattle.std.specs.Prelude.{sum_by, slice_index, nat_le, ◌==◌}
+use Rattle.std.proofs.lemmas.List.Sums.{sum_by_push}
+use Rattle.path_order.specs.Path.{joined}
+use Rattle.byte_feed.specs.declared.damage.DbFault.{DbFault}
+use Rattle.byte_feed.specs.declared.damage.DbFault.TheVariants as faults
+use Rattle.std.proofs.Math.Seq.{take-nil}
+use Rattle.std.specs.FinMap as map
+use Rattle.loc_outside.specs.Files.{Files}
+use Rattle.byte_feed.specs.Front.{Window, limit, readable, items_of, items_within}
+use Rattle.byte_feed.specs.Feed.{FeedState, empty_at, window, so_far, reach, Draws}
+use Rattle.loc_outside.specs.Causes.{raised}
+use Rattle.byte_feed.specs.Paths.{Ending, PathAt, ToCome, Moved, MovedKnown, EndsKnown, StopsAt, after_paths, no_paths, rest_of}
+use Rattle.byte_feed.proofs.Rests.{moved_none}
+use Rattle.any_db.specs.Formats.{format_of, rest_in, contents_of_part}
+use Rattle.any_db.specs.Reader.{fresh, paths_left, feed_of}
+use Rattle.any_db.specs.declared.any_reader.AnyReader.{AnyReader}
+use Rattle.locate_engine.specs.declared.outcome.Outcome.{Outcome}
+use Rattle.locate_engine.specs.declared.outcome.Outcome.TheVariants as outcomes
+use Rattle.locate_engine.specs.declared.counting.Stats.{Stats}
+use Rattle.locate_engine.specs.Searched.{outcome_of, is_read_fault}
+use Rattle.locate_engine.specs.Statistics.{name_len, counted, stats_of, no_stats, stats_after, Counts, CountsKnown, DamagedAt, Fits, ends_reading, read_in, read_on}
+
+-- ---- names
+
+-- the length of what stands before a name in the directory of so many bytes
+pub before_root : (path : List ℕ) (n : ℕ) → n ≡ 1 → n ≤ length path → slice_index path 0 ≡ 47 → 1 ≡ length (joined (take n path) [])
+before_root [] n one fits slash = absurd (omega (arith, one, fits))
+before_root (byte ∷ path) n one fits slash = rw (one, slash) refl
+
+pub slash_or_not : (b : Bool) (xs : List ℕ) (n : ℕ) → length xs ≡ n → (b ≡ true → ⊥) → n + 1 ≡ length (cond b (xs ++ []) (xs ++ 47 ∷ []))
+slash_or_not true xs n len other = absurd (other refl)
+slash_or_not false xs n len other = omega (arith, len, length-append xs (47 ∷ []))
+
+pub name_whole : (p : PathAt) (heads : ℕ) → heads ≡ p.heads → (heads == 0) ≡ true → length p.text ≡ name_len p
+name_whole p heads same none = ap (λ (b : Bool). length (cond b p.text (drop (length (joined (take p.dir_len p.text) [])) p.text))) (sym (ap (λ (h : ℕ). h == 0) (sym same) ∙ none))
+
+pub name_entry : (p : PathAt) (heads before : ℕ) → heads ≡ p.heads → (heads == 0) ≡ false → before ≡ length (joined (take p.dir_len p.text) []) → length p.text - before ≡ name_len p
+name_entry p heads before same some from =
+    ap (λ (n : ℕ). length p.text - n) from ∙ sym (length-drop (length (joined (take p.dir_len p.text) [])) p.text)
+    ∙ ap (λ (b : Bool). length (cond b p.text (drop (length (joined (take p.dir_len p.text) [])) p.text))) (sym (ap (λ (h : ℕ). h == 0) (sym same) ∙ some))
+
+-- ---- one path more
+
+-- the paths before, and one more
+pub one_more : (given : List PathAt) (p : PathAt) (z : ToCome) → after_paths given (after_paths (p ∷ []) z) ≡ after_paths (given ++ p ∷ []) z
+one_more given p z = ap (λ (ps : List PathAt). record { paths = ps; ending = z.ending; place = z.place; heads = z.heads }) (sym (append_assoc given (p ∷ []) z.paths))
+
+pub bytes_more : (given : List PathAt) (p : PathAt) → sum_by name_len (given ++ p ∷ []) ≡ sum_by name_len given + name_len p
+bytes_more given p = sum_by_push name_len given p
+
+pub files_more : (given : List PathAt) (p : PathAt) → length (given ++ p ∷ []) ≡ length given + 1
+files_more given p = length-append given (p ∷ [])
+
+name_short : (heads dir_len : ℕ) (text : List ℕ) (b : Bool) → length (cond b text (drop (length (joined (take dir_len text) [])) text)) ≤ length text
+name_short heads dir_len text true = omega arith
+name_short heads dir_len text false = omega (arith, length-drop (length (joined (take dir_len text) [])) text)
+
+-- a name is no longer than its path
+pub name_within : (p : PathAt) → name_len p ≤ length p.text
+name_within p = name_short p.heads p.dir_len p.text (p.heads == 0)
+
+-- ---- the end of the paths
+
+off_on : false ≡ true → ⊥
+off_on e = absurd cc
+
+on_off : true ≡ false → ⊥
+on_off e = absurd cc
+
+-- what was counted is what these paths have
+told : (given : List PathAt) (files bytes place heads : ℕ) (e : Ending) → files ≡ length given → bytes ≡ sum_by name_len given
+    → counted heads files bytes place ≡ stats_of (after_paths given (no_paths place heads e))
+told given files bytes place heads e many long =
+    let all : given ++ [] ≡ given = append-nil given in
+    ap (λ (n : ℕ). counted heads n bytes place) (many ∙ ap (λ (ps : List PathAt). length ps) (sym all))
+    ∙ ap (λ (n : ℕ). counted heads (length (given ++ [])) n place) (long ∙ ap (sum_by name_len) (sym all))
+
+module _ (t t' : Window → ToCome) (given : List PathAt) (f f' : FeedState) (files bytes place heads : ℕ) (many : files ≡ length given) (long : bytes ≡ sum_by name_len given) where
+  -- the file ended so
+  by_ending : (a b : List ℕ) (n : ℕ) (e : Ending) → Moved t t' (after_paths given) f a f' b → t' (window f' b) ≡ no_paths place heads e → is_read_fault (outcome_of e) ≡ false
+      → Counts (read_on t f a n (outcome_of e)) (stats_after (outcome_of e) (counted heads files bytes place)) (outcome_of e)
+  by_ending a b n e moved ends read =
+      let whole : t (window f a) ≡ after_paths given (no_paths place heads e) = moved.whole ∙ ap (after_paths given) ends in
+      let same : read_on t f a n (outcome_of e) ≡ after_paths given (no_paths place heads e) = ap (λ (r : Bool). t (cond r (so_far f a n) (window f a))) read ∙ whole in
+      record {
+        counts = ap (stats_after (outcome_of e)) (told given files bytes place heads e many long ∙ ap stats_of (sym same));
+        ends = λ _. ap (λ (z : ToCome). outcome_of z.ending) (sym same);
+      }
+
+  -- all paths were counted, and then the file ended or the source failed
+  pub counts_end : (l l' l'' : Option (List ℕ)) (e : Ending) → MovedKnown t t' (after_paths given) f l f' l' → EndsKnown t' (no_paths place heads) f' l' l'' e
+      → CountsKnown t f l l'' (stats_after (outcome_of e) (counted heads files bytes place)) (outcome_of e)
+  counts_end None l' l'' e moved ends = tt
+  counts_end (Some a) None l'' e moved ends = absurd moved
+  counts_end (Some a) (Some b) None e moved ends = absurd ends
+  counts_end (Some a) (Some b) (Some c) (Ok x) moved ends = (λ no. absurd (off_on no), by_ending a b (length c) (Ok x) moved ends refl)
+  counts_end (Some a) (Some b) (Some c) (Err faults.NotADatabase) moved ends = (λ no. absurd (off_on no), by_ending a b (length c) (Err faults.NotADatabase) moved ends refl)
+  counts_end (Some a) (Some b) (Some c) (Err (faults.Damage d)) moved ends = (λ no. absurd (off_on no), by_ending a b (length c) (Err (faults.Damage d)) moved ends refl)
+  counts_end (Some a) (Some b) (Some c) (Err faults.TooLarge) moved ends = (λ no. absurd (off_on no), by_ending a b (length c) (Err faults.TooLarge) moved ends refl)
+  counts_end (Some a) (Some b) (Some c) (Err faults.ReadFault) moved ends =
+      let part : t (so_far f a (length c)) ≡ after_paths given (no_paths place heads ends.ending) = moved.parts ends.goes_on (length c) ends.fewer ∙ ap (after_paths given) ends.nothing in (
+        λ _. (moved.goes_on ends.goes_on).0,
+        record {
+          counts = told given files bytes place heads ends.ending many long ∙ ap stats_of (sym part);
+          ends = λ no. absurd (on_off no);
+        },
+      )
+
+-- ---- a stream that has moved on
+
+read_by : (b : Bool) (t t' : Window → ToCome) (f f' : FeedState) (l l' : List ℕ) (n : ℕ) → Moved t t' (λ x. x) f l f' l' → (b ≡ true → f'.ended ≡ false) → n ≤ length l'
+    → t' (cond b (so_far f' l' n) (window f' l')) ≡ t (cond b (so_far f l n) (window f l))
+read_by true t t' f f' l l' n moved on fewer = sym (moved.parts (on refl) n fewer)
+read_by false t t' f f' l l' n moved on fewer = sym moved.whole
+
+-- Nothing was given of the paths before they were counted.
+pub counts_before : (t t' : Window → ToCome) (f f' : FeedState) (l l' l'' : Option (List ℕ)) (stats : Stats) (result : Outcome)
+    → MovedKnown t t' (λ x. x) f l f' l' → IfSome l' (λ a. IfSome l'' (λ b. length b ≤ length a)) → CountsKnown t' f' l' l'' stats result
+    → CountsKnown t f l l'' stats result
+counts_before t t' f f' None l' l'' stats result moved fewer done = tt
+counts_before t t' f f' (Some a) None l'' stats result moved fewer done = absurd moved
+counts_before t t' f f' (Some a) (Some b) None stats result moved fewer done = absurd done
+counts_before t t' f f' (Some a) (Some b) (Some c) stats result moved fewer done = (
+  λ e. (moved.goes_on (done.0 e)).0,
+  subst (λ (seen : ToCome). Counts seen stats result) (read_by (is_read_fault result) t t' f f' a b (length c) moved done.0 fewer) done.1,
+)
+
+-- how much a stream drew is no more than was left
+pub drawn_fewer : (f f' : FeedState) (g g' : ℕ) (l l' : Option (List ℕ)) → Draws f f' g g' l l' → IfSome l (λ a. IfSome l' (λ b. length b ≤ length a))
+drawn_fewer f f' g g' None l' drawn = tt
+drawn_fewer f f' g g' (Some a) None drawn = tt
+drawn_fewer f f' g g' (Some a) (Some b) drawn = omega (arith, ap length drawn.rest.1, length-drop (reach f' - reach f) a)
+
+-- ---- what an ending says besides
+
+pub no_database : (e : Ending) (stats : Stats) → outcome_of e ≡ outcomes.NotADatabase → stats_after (outcome_of e) stats ≡ no_stats
+no_database e stats is = ap (λ (o : Outcome). stats_after o stats) is
+
+pub not_missing : (e : Ending) → outcome_of e ≡ outcomes.Missing → ⊥
+not_missing (Ok x) is = absurd cc
+not_missing (Err faults.NotADatabase) is = absurd cc
+not_missing (Err (faults.Damage d)) is = absurd cc
+not_missing (Err faults.ReadFault) is = absurd cc
+not_missing (Err faults.TooLarge) is = absurd cc
+
+pub by_reading : (e : Ending) → IsTrue (ends_reading (outcome_of e))
+by_reading (Ok x) = refl
+by_reading (Err faults.NotADatabase) = refl
+by_reading (Err (faults.Damage d)) = refl
+by_reading (Err faults.ReadFault) = refl
+by_reading (Err faults.TooLarge) = refl
+
+-- Where reading stopped, the damage is.
+pub damaged_there : (e : Ending) (f : FeedState) (directories files bytes place : ℕ) → StopsAt f place e → DamagedAt (stats_after (outcome_of e) (counted directories files bytes place)).stored (outcome_of e)
+damaged_there (Ok x) f directories files bytes place stops = tt
+damaged_there (Err faults.NotADatabase) f directories files bytes place stops = tt
+damaged_there (Err (faults.Damage d)) f directories files bytes place stops = stops.0
+damaged_there (Err faults.ReadFault) f directories files bytes place stops = tt
+damaged_there (Err faults.TooLarge) f directories files bytes place stops = tt
+
+pub too_large_there : (e : Ending) (f : FeedState) (place : ℕ) → StopsAt f place e → outcome_of e ≡ outcomes.TooLarge → reach f ≡ 2 ^ 40
+too_large_there (Ok x) f place stops is = absurd cc
+too_large_there (Err faults.NotADatabase) f place stops is = absurd cc
+too_large_there (Err (faults.Damage d)) f place stops is = absurd cc
+too_large_there (Err faults.ReadFault) f place stops is = absurd cc
+too_large_there (Err faults.TooLarge) f place stops is = stops
+
+pub failed_there : (e : DbFault) → outcome_of (Err e) ≡ outcomes.ReadFault → e ≡ faults.ReadFault
+failed_there faults.NotADatabase is = absurd cc
+failed_there (faults.Damage d) is = absurd cc
+failed_there faults.ReadFault is = refl
+failed_there faults.TooLarge is = absurd cc
+
+-- what was counted fits, also where it is nothing
+pub fits_after : (e : Ending) (stats : Stats) → Fits stats → Fits (stats_after (outcome_of e) stats)
+fits_after (Ok x) stats fits = fits
+fits_after (Err faults.NotADatabase) stats fits = record { directories = omega arith; files = omega arith; name_bytes = omega arith; stored = omega arith }
+fits_after (Err (faults.Damage d)) stats fits = fits
+fits_after (Err faults.ReadFault) stats fits = fits
+fits_after (Err faults.TooLarge) stats fits = fits
+
+pub nothing_after : (e : Ending) → stats_after (outcome_of e) no_stats ≡ no_stats
+nothing_after (Ok x) = refl
+nothing_after (Err faults.NotADatabase) = refl
+nothing_after (Err (faults.Damage d)) = refl
+nothing_after (Err faults.ReadFault) = refl
+nothing_after (Err faults.TooLarge) = refl
+
+pub nothing_fits : Fits no_stats
+nothing_fits = record { directories = omega arith; files = omega arith; name_bytes = omega arith; stored = omega arith }
+
+-- nothing was counted of a file that has no path
+pub counts_none : (t : Window → ToCome) (f : FeedState) (l l' : Option (List ℕ)) (e : Ending) → EndsKnown t (no_paths 0 0) f l l' e → CountsKnown t f l l' no_stats (outcome_of e)
+counts_none t f l l' e ends =
+    subst (λ (stats : Stats). CountsKnown t f l l' stats (outcome_of e)) (nothing_after e)
+    (counts_end t t [] f f 0 0 0 0 refl refl l l l' e (moved_none t f l) ends)
+
+pub damaged_none : (e : Ending) (f : FeedState) → StopsAt f 0 e → DamagedAt 0 (outcome_of e)
+damaged_none (Ok x) f stops = tt
+damaged_none (Err faults.NotADatabase) f stops = tt
+damaged_none (Err (faults.Damage d)) f stops = stops.0
+damaged_none (Err faults.ReadFault) f stops = tt
+damaged_none (Err faults.TooLarge) f stops = tt
+
+-- ---- of a whole file
+
+whole_window : (file : List ℕ) → window (empty_at 0) file ≡ readable file
+whole_window file =
+    let end : 0 + length file ≡ length file = omega arith in
+    let room : limit - 0 ≡ limit = omega arith in
+    ap (λ (n : ℕ). record { bytes = take (limit - 0) file; more = nat_le limit n }) end ∙ ap (λ (n : ℕ). record { bytes = take n file; more = nat_le limit (length file) }) room
+
+part_window : (file left : List ℕ) (n : ℕ) → n ≤ length file → left ≡ drop n file
+    → so_far (empty_at 0) file (length left) ≡ record { bytes = take limit (take n file); more = true }
+part_window file left n fits rest =
+    let all : length file - length left ≡ n = omega (arith, fits, ap length rest, length-drop n file) in
+    let room : limit - 0 ≡ limit = omega arith in
+    ap (λ (k : ℕ). record { bytes = take (limit - 0) (take k file); more = true }) all ∙ ap (λ (k : ℕ). record { bytes = take k (take n file); more = true }) room
+
+raised_gap : (g n : ℕ) → g ≤ 2 ^ 63 → n ≤ 2 ^ 40 → raised g n - g ≡ n
+raised_gap g n small fits = omega (arith, small, fits)
+
+is_the_read_fault : (result : Outcome) → is_read_fault result ≡ true → result ≡ outcomes.ReadFault
+is_the_read_fault outcomes.ReadFault e = refl
+is_the_read_fault outcome e = absurd cc
+
+read_file : (rest : Window → ToCome) (b : Bool) (file left : List ℕ) (n k : ℕ) → n ≤ length file → left ≡ drop n file → (b ≡ true → k ≡ n)
+    → rest (cond b (so_far (empty_at 0) file (length left)) (window (empty_at 0) file)) ≡ cond b (rest (record { bytes = take limit (take k file); more = true })) (rest (readable file))
+read_file rest true file left n k fits those same =
+    ap rest (part_window file left n fits those) ∙ ap (λ (c : ℕ). rest (record { bytes = take limit (take c file); more = true })) (sym (same refl))
+read_file rest false file left n k fits those same = ap rest (whole_window file)
+
+-- What was counted from the first byte on was counted of the file.
+pub counts_file : (rest : Window → ToCome) (f : FeedState) (l l' : Option (List ℕ)) (g g' : ℕ) (stats : Stats) (result : Outcome)
+    → CountsKnown rest (empty_at 0) l l' stats result → Draws (empty_at 0) f g g' l l' → reach f ≤ 2 ^ 40
+    → IfSome l (λ file. (result ≡ outcomes.ReadFault → g ≤ 2 ^ 63) →
+    Counts (cond (is_read_fault result) (rest (record { bytes = take limit (take (g' - g) file); more = true })) (rest (readable file))) stats result)
+counts_file rest f None l' g g' stats result done drawn far = tt
+counts_file rest f (Some file) None g g' stats result done drawn far = absurd done
+counts_file rest f (Some file) (Some left) g g' stats result done drawn far = λ small.
+    let n : ℕ = reach f - reach (empty_at 0) in
+    let fits : n ≤ 2 ^ 40 = omega (arith, far) in
+    let gap : is_read_fault result ≡ true → g' - g ≡ n = λ yes. ap (λ (k : ℕ). k - g) drawn.count ∙ raised_gap g n (small (is_the_read_fault result yes)) fits in
+    subst (λ (z : ToCome). Counts z stats result) (read_file rest (is_read_fault result) file left n (g' - g) drawn.rest.0 drawn.rest.1 gap) done.1
+
+pub drawn_rises : (f f' : FeedState) (g g' : ℕ) (l l' : Option (List ℕ)) → Draws f f' g g' l l' → g ≤ g'
+drawn_rises f f' g g' l l' drawn = omega (arith, drawn.count)
+
+pub drawn_within : (f f' : FeedState) (g g' : ℕ) (l l' : Option (List ℕ)) → Draws f f' g g' l l' → reach f' ≤ 2 ^ 40 → g' ≤ g + 2 ^ 40
+drawn_within f f' g g' l l' drawn far = omega (arith, drawn.count, far)
+
+-- all up to the limit was drawn
+pub drawn_whole : (f : FeedState) (g g' : ℕ) (l l' : Option (List ℕ)) → Draws (empty_at 0) f g g' l l' → reach f ≡ 2 ^ 40 → g' ≡ raised g (2 ^ 40)
+drawn_whole f g g' l l' drawn far =
+    let all : reach f - reach (empty_at 0) ≡ 2 ^ 40 = omega (arith, far) in
+    drawn.count ∙ ap (raised g) all
+
+-- ---- by a reader that has read nothing
+
+-- what such a reader counted it counted of the file
+pub counts_opened : (r : AnyReader) → r ≡ fresh → (f : FeedState) (l l' : Option (List ℕ)) (g g' : ℕ) (stats : Stats) (result : Outcome)
+    → CountsKnown (paths_left r.stage) (feed_of r.stage) l l' stats result → Draws (feed_of r.stage) f g g' l l' → reach f ≤ 2 ^ 40
+    → IfSome l (λ file. (result ≡ outcomes.ReadFault → g ≤ 2 ^ 63) → Counts (read_in file (g' - g) result) stats result)
+counts_opened r e f l l' g g' stats result done drawn far =
+    counts_file rest_in f l l' g g' stats result (subst (λ (q : AnyReader). CountsKnown (paths_left q.stage) (feed_of q.stage) l l' stats result) e done)
+    (subst (λ (q : AnyReader). Draws (feed_of q.stage) f g g' l l') e drawn) far
+
+pub whole_drawn : (r : AnyReader) → r ≡ fresh → (f : FeedState) (l l' : Option (List ℕ)) (g g' : ℕ) → Draws (feed_of r.stage) f g g' l l' → reach f ≡ 2 ^ 40 → g' ≡ raised g (2 ^ 40)
+whole_drawn r e f l l' g g' drawn far = drawn_whole f g g' l l' (subst (λ (q : AnyReader). Draws (feed_of q.stage) f g g' l l') e drawn) far
+
+-- ---- a file that could not be opened
+
+no_bytes : (more : Bool) → stats_of (rest_in (record { bytes = []; more = more })) ≡ no_stats
+unfolding rest_in format_of rest_of items_of items_within
+no_bytes more = refl
+
+nothing_given : (n : ℕ) (file : List ℕ) → n ≡ 0 → stats_of (contents_of_part n file) ≡ no_stats
+nothing_given n file none =
+    let all : record { bytes = take limit (take n file); more = true } ≡ record { bytes = []; more = true } = ap (λ (bytes : List ℕ). record { bytes = bytes; more = true }) (ap (λ (k : ℕ). take limit (take k file)) none ∙ take-nil limit) in
+    ap (λ (w : Window). stats_of (rest_in w)) all ∙ no_bytes true
+
+counts_unopened : (g g' : ℕ) → g' ≡ g → (file : List ℕ) → Counts (read_in file (g' - g) outcomes.ReadFault) no_stats outcomes.ReadFault
+counts_unopened g g' same file = record {
+  counts = sym (nothing_given (g' - g) file (omega (arith, same)));
+  ends = λ no. absurd (on_off no);
+}
+
+in_files : (g g' : ℕ) (found : Option (List ℕ)) → g' ≡ g
+    → IfSome found (λ file. (outcomes.ReadFault ≡ outcomes.ReadFault → g ≤ 2 ^ 63) → Counts (read_in file (g' - g) outcomes.ReadFault) no_stats outcomes.ReadFault)
+in_files g g' None same = tt
+in_files g g' (Some file) same = λ small. counts_unopened g g' same file
+
+pub unopened_known : (g g' : ℕ) (files : Option Files) (name : List ℕ) → g' ≡ g
+    → IfSome files (λ files. IfSome (map.get files name) (λ file. (outcomes.ReadFault ≡ outcomes.ReadFault → g ≤ 2 ^ 63) → Counts (read_in file (g' - g) outcomes.ReadFault) no_stats outcomes.ReadFault))
+unopened_known g g' None name same = tt
+unopened_known g g' (Some files) name same = in_files g g' (map.get files name) same

@@ -1,0 +1,116 @@
+//! The paths that the patterns of a query want.
+ghost use Rattle.std.specs.Prelude.{◌≡◌, ◌+◌, ◌≤◌, ◌↔◌, IsTrue, sum_by};
+ghost use Rattle.std.specs.List.{list_all, list_any};
+ghost use Rattle.locate_engine.specs.Globs.{judged, in_glob, wanted_by, wanted, Wants, steps_of, steps_on};
+
+use crate::globs::Globs;
+use crate::matcher::Matcher;
+use crate::query::Query;
+use glob_match::{Glob, Steps};
+use path_order::base_start;
+use std::marker::Model;
+use std::sync::ledger::Ledger;
+
+/// Wants the paths that some pattern of a query matches, or every one, as the query says. A plain pattern in the case
+/// in which it is written takes no step.
+#[derive(Drop)]
+pub struct GlobMatcher<'q> {
+    query: &'q Query,
+}
+
+impl<'q> Model for GlobMatcher<'q> {
+    ghost use Rattle.locate_engine.specs.declared.query.Query.{Query};
+
+    ghost Value = { Query };
+
+    ghost view = { λ m. m.query.now };
+}
+
+impl<'q> GlobMatcher<'q> {
+    /// Looks for the paths that this query wants.
+    pub fn new(query: &'q Query) -> GlobMatcher<'q>
+        ensures { result ≡ query.entry.now }
+    {
+        GlobMatcher { query }
+    }
+}
+
+impl Matcher for GlobMatcher<'_> {
+    ghost test = { λ m path. wanted m path };
+
+    ghost bound = { λ m path. steps_on m path };
+
+    #[inline(always)]
+    fn wants<L: Ledger>(&mut self, path: &[u8], steps: &mut Steps<L>) -> bool {
+        let text = judged_text(self.query.base, path);
+        is_wanted(&self.query.globs, self.query.all, text, steps)
+    }
+}
+
+/// What a query wants is what its patterns match. Nothing is done.
+pub fn wanted_is_matched(_query: &Query, _path: &[u8])
+    ensures { IsTrue (wanted _query.now _path.now) ↔ Wants _query.now _path.now }
+{}
+
+/// The text that the patterns are asked of.
+#[inline(always)]
+fn judged_text(base: bool, path: &[u8]) -> &[u8]
+    ensures { result.now ≡ judged base path.now }
+{
+    if base {
+        return &path[base_start(path)..];
+    }
+    path
+}
+
+/// Whether every pattern matches the text, or some pattern does.
+#[inline(always)]
+fn is_wanted<L: Ledger>(globs: &Globs, all: bool, text: &[u8], steps: &mut Steps<L>) -> bool
+    ensures value { result ≡ wanted_by globs.now all text.now }
+    ensures later { steps.old ≤ steps.new }
+    ensures within { steps.new ≤ steps.old + sum_by (steps_of text.now) globs.now }
+{
+    if all {
+        return all_match(globs, text, steps);
+    }
+    any_matches(globs, text, steps)
+}
+
+/// Whether every pattern matches the text.
+fn all_match<L: Ledger>(globs: &Globs, text: &[u8], steps: &mut Steps<L>) -> bool
+    ensures value { result ≡ list_all (λ glob. in_glob glob text.now) globs.now }
+    ensures later { steps.old ≤ steps.new }
+    ensures within { steps.new ≤ steps.old + sum_by (steps_of text.now) globs.now }
+{
+    for at in 0..globs.len() {
+        if !matches(globs.at(at), text, steps) {
+            return false;
+        }
+    }
+    true
+}
+
+/// Whether some pattern matches the text.
+#[inline(always)]
+fn any_matches<L: Ledger>(globs: &Globs, text: &[u8], steps: &mut Steps<L>) -> bool
+    ensures value { result ≡ list_any (λ glob. in_glob glob text.now) globs.now }
+    ensures later { steps.old ≤ steps.new }
+    ensures within { steps.new ≤ steps.old + sum_by (steps_of text.now) globs.now }
+{
+    for at in 0..globs.len() {
+        if matches(globs.at(at), text, steps) {
+            return true;
+        }
+    }
+    false
+}
+
+/// Whether one pattern matches the text.
+#[inline(always)]
+fn matches<L: Ledger>(glob: &Glob, text: &[u8], steps: &mut Steps<L>) -> bool
+    ensures value { result ≡ in_glob glob.now text.now }
+    ensures later { steps.old ≤ steps.new }
+    ensures within { steps.new ≤ steps.old + steps_of text.now glob.now }
+{
+    glob.matches(text, steps)
+}
