@@ -1,0 +1,5 @@
+mod FileLemmas
+mod HoldingLemmas
+mod ScanLemmas
+mod MemoryLemmas
+mod ToldLemmas

@@ -1,0 +1,47 @@
+-- What an update leaves of an output.
+use Rattle.std.specs.Prelude.{◌≡◌, ◌≤◌, ◌⊎◌, ℕ, List, [], length, take, Option, None, Some, option_map}
+use Rattle.std.specs.FinMap.{insert}
+use Rattle.loc_outside.specs.Files.{Files}
+use Rattle.loc_outside.specs.Held.{Held, grown}
+use Rattle.database_update.specs.declared.fault.UpdateFault.{UpdateFault}
+use Rattle.database_update.specs.declared.fault.UpdateFault.TheVariants.{BadConf, BadMount, ReadFault, RootMissing, TreeFault, WriteFault, TooManyNames, TooManyDirectories, OutOfMemory}
+
+-- a file of this name and these bytes is stored, and no name is begun
+abbrev pub with_file : List ℕ → List ℕ → Held → Held
+with_file name bytes held = record { stored = insert held.stored name bytes; name = None; pending = bytes }
+
+-- this name is begun, and these bytes are pending; the stored files are the same
+abbrev pub with_pending : List ℕ → List ℕ → Held → Held
+with_pending name bytes held = record { stored = held.stored; name = Some name; pending = bytes }
+
+-- the stored files, and the pending bytes, where they are told
+abbrev pub stored_in : Option Held → Option Files
+stored_in held = option_map (λ h. h.stored) held
+
+abbrev pub pending_in : Option Held → Option (List ℕ)
+pending_in held = option_map (λ h. h.pending) held
+
+-- no byte is pending, where that is told
+abbrev pub none_pending : Option Held → Option (List ℕ)
+none_pending held = option_map (λ _. []) held
+
+-- the name is begun, and a first part of the text is pending
+abbrev pub PendsPart : List ℕ → List ℕ → Option Held → Option Held → Type 0
+PendsPart name text old new = (n : ℕ) × (n ≤ length text) × (new ≡ option_map (with_pending name (take n text)) old)
+
+-- the pending bytes have grown by a first part of the text
+abbrev pub GrowsPart : List ℕ → Option Held → Option Held → Type 0
+GrowsPart text old new = (n : ℕ) × (n ≤ length text) × (new ≡ option_map (grown (take n text)) old)
+
+-- What a fault leaves of the output: a refusal of the settings leaves all as it was; after a fault of the scan the name is
+-- begun. A fault of writing, and want of memory, may come before and after.
+abbrev pub Leaves : UpdateFault → List ℕ → List ℕ → Option Held → Option Held → Type 0
+Leaves (BadConf line cause) name text old new = new ≡ old
+Leaves (BadMount line cause) name text old new = new ≡ old
+Leaves (ReadFault file) name text old new = new ≡ old
+Leaves RootMissing name text old new = new ≡ option_map (with_pending name []) old
+Leaves TreeFault name text old new = PendsPart name text old new
+Leaves WriteFault name text old new = (new ≡ old) ⊎ PendsPart name text old new
+Leaves TooManyNames name text old new = PendsPart name text old new
+Leaves TooManyDirectories name text old new = PendsPart name text old new
+Leaves OutOfMemory name text old new = (new ≡ old) ⊎ PendsPart name text old new

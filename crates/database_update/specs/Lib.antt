@@ -1,0 +1,4 @@
+pub mod SettingsFiles
+pub mod Settings
+pub mod Holding
+pub mod Faults
