@@ -1,2 +1,10 @@
 pub mod Told
-pub mod Ran
+pub mod Going
+pub mod Finding
+pub mod CountingAll
+pub mod Runs
+pub mod Updating
+pub mod Counting
+pub mod ToldOf
+pub mod Queries
+pub mod Searching

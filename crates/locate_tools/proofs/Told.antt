@@ -14,6 +14,10 @@ pub on_err : {A E : Type 0} (r : Result A E) (P : Type 0) → P → OnErr r P
 on_err (Ok x) P fact = tt
 on_err (Err e) P fact = fact
 
+pub on_err_by : {A E : Type 0} (r : Result A E) (P Q : Type 0) → (P → Q) → OnErr r P → OnErr r Q
+on_err_by (Ok x) P Q go h = h
+on_err_by (Err e) P Q go h = go h
+
 -- the whole was told, or a first part
 pub part_of : {A E : Type 0} (r : Result A E) (u w : Option (List ℕ)) (xs : List ℕ) → OnOk r (Appends u w xs) → OnErr r (AppendsPart u w xs) → AppendsPart u w xs
 part_of (Ok x) u w xs ok err = part_all u w xs ok

@@ -1,4 +1,11 @@
-pub mod Words
+pub mod Calls
 pub mod Messages
+pub mod Told
 pub mod Statuses
-pub mod Runs
+pub mod Standing
+pub mod Located
+pub mod Tried
+pub mod Counted
+pub mod Ran
+pub mod Updates
+pub mod Tasks

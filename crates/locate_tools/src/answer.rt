@@ -1,39 +1,70 @@
 //! How a run ends.
 ghost use Rattle.std.specs.Prelude.{◌≡◌};
-ghost use Rattle.locate_tools.specs.Statuses.{status_of};
+ghost use Rattle.locate_tools.specs.Statuses.{status_of, write_status as status_of_write_fault};
 
+use database_update::SettingsFile;
 use locate_engine::Outcome;
+use mount_table::MountCause;
 use std::marker::Model;
+use tool_words::Tool;
+use updatedb_conf::ConfCause;
 
 /// Why a run ended as it did.
 #[derive(Clone, Copy, Debug, PartialEq, Eq)]
 pub enum Cause {
-    /// A path was printed.
+    /// The tool did its work. For `locate`: a path matched, or the limit is 0, or statistics were asked for.
     Done,
-    /// No path was printed, and no write failed.
+    /// `locate` matched no path, and no write failed.
     NoMatch,
-    /// The words are not `locate -d NAME PATTERN`.
+    /// There is no such tool, or the other words break a rule of its command line.
     Usage,
-    /// A write of a path or a separator failed.
+    /// The configuration is refused. The line is counted from 1, and 0 where the file is too long.
+    BadConf { line: u64, fault: ConfCause },
+    /// The mount table is refused. The line is counted from 1, and 0 where the file is too long.
+    BadMount { line: u64, fault: MountCause },
+    /// There is no directory that is to be scanned.
+    RootMissing,
+    /// This file, which `updatedb` needs, could not be opened or read.
+    ReadFault(SettingsFile),
+    /// A write to the output or to standard output failed.
     WriteFault,
-    /// There was no memory for the words or the outcomes. No database was opened.
     OutOfMemory,
+    /// The tree could not be looked at.
+    TreeFault,
+    /// A directory lists more than 16,777,216 names.
+    TooManyNames,
+    /// More than 4,294,967,295 directories were tried.
+    TooManyDirectories,
+}
+
+/// The exit status of a write fault.
+fn write_status(tool: Option<Tool>) -> u8
+    ensures { result ≡ status_of_write_fault tool }
+{
+    match tool {
+        Some(Tool::Locate) => 1,
+        Some(Tool::Updatedb | Tool::Convert | Tool::Exercise) | None => 2,
+    }
 }
 
 impl Cause {
-    /// The exit status.
-    pub fn status(self) -> u8
-        ensures { result ≡ status_of self }
+    /// The exit status of a run of this tool.
+    pub fn status(self, tool: Option<Tool>) -> u8
+        ensures { result ≡ status_of tool self }
     {
         match self {
             Cause::Done => 0,
-            Cause::NoMatch | Cause::Usage | Cause::WriteFault => 1,
+            Cause::NoMatch | Cause::Usage | Cause::RootMissing => 1,
+            Cause::BadConf { .. } | Cause::BadMount { .. } | Cause::ReadFault(_) => 1,
+            Cause::WriteFault => write_status(tool),
             Cause::OutOfMemory => 3,
+            Cause::TreeFault => 4,
+            Cause::TooManyNames | Cause::TooManyDirectories => 5,
         }
     }
 }
 
-/// How the search of each database ended, in the order of the databases. A contract sees a list.
+/// How each database ended that was tried, in their order. A contract sees a list.
 #[derive(Drop)]
 pub struct Outcomes {
     items: Vec<Outcome>,
@@ -68,6 +99,6 @@ pub struct Ending {
     /// The exit status.
     pub status: u8,
     pub cause: Cause,
-    /// One for each database that was to be opened.
+    /// One for each database that `locate` tried to open. Other tools have none.
     pub outcomes: Outcomes,
 }

@@ -1,159 +1,192 @@
 //! The run of a call.
-ghost use Rattle.std.specs.Prelude.{◌≡◌, ◌↔◌, ◌≤◌, ◌<◌, ◌+◌, ◌-◌, ◌^◌, ◌∷◌, [], None, Some, IfSome, IsTrue, length};
-ghost use Rattle.std.specs.FinMap as map;
+ghost use Rattle.std.specs.Prelude.{◌≡◌, ◌≤◌, ◌⊎◌, ◌++◌, [], None, Some, false};
 ghost use Rattle.std.specs.Io.KnownBytes.{Appends};
 ghost use Rattle.loc_outside.specs.Causes.{Rose};
 ghost use Rattle.loc_outside.specs.Outside.{AppendsPart};
-ghost use Rattle.locate_engine.specs.Searched.{is_missing_or_read_fault};
+ghost use Rattle.tool_words.specs.Asked.{Locate, Updatedb};
+ghost use Rattle.tool_words.specs.LocateSeen.{seen as locate_seen};
+ghost use Rattle.tool_words.specs.UpdatedbSeen.{seen as updatedb_seen};
+ghost use Rattle.tool_words.specs.Tools.{speaker as speaker_of_tool};
+ghost use Rattle.locate_tools.specs.Calls.{IsLocate, IsUpdatedb, request_of, tool_called};
+ghost use Rattle.locate_tools.specs.Located.{databases_of};
 ghost use Rattle.locate_tools.specs.Messages.{cause_message};
-ghost use Rattle.locate_tools.specs.Runs.{FindsIn, Located, OfOutcome, cause_of, outcome_count, told};
+ghost use Rattle.locate_tools.specs.Ran.{LocateRun};
+ghost use Rattle.locate_tools.specs.Standing.{standing};
 ghost use Rattle.locate_tools.specs.Statuses.{status_of};
-ghost use Rattle.locate_tools.specs.Words.{asked};
+ghost use Rattle.locate_tools.specs.Told.{messages, told};
+ghost use Rattle.locate_tools.specs.Tried.{known};
+ghost use Rattle.locate_tools.specs.Updates.{UpdatedbRun};
 
 use crate::answer::{Cause, Ending, Outcomes};
-use crate::messages::{report, tell_cause};
-use crate::words::{Call, Search};
-use glob_match::Steps;
-use loc_outside::{Reader, Sink};
-use locate_engine::{Outcome, PlainMatcher, Query, Tally, search_by};
+use crate::call::Call;
+use crate::located::locate;
+use crate::task::Task;
+use crate::telling::tell_end;
+use crate::updated::updatedb;
+use loc_outside::{BufferedSink, Gate, Output, Reader, Sink, Tree};
+use path_order::Stamp;
 use std::alloc::Global;
 use std::marker::Brand;
-use std::sync::ledger::{Blank, Ledger};
+use std::sync::ledger::Blank;
+use tool_words::{LocateSettings, Tool, UpdatedbSettings, WordsFault, speaker};
 
-/// How the search of the one database ended, and so the run.
-#[derive(Clone, Copy)]
-struct Found {
-    outcome: Outcome,
+/// The ending of a run without databases, of which nothing was told yet. Its cause is told.
+fn ended<E: Sink>(
+    alloc: Global,
+    err: &mut E,
+    tool: Option<Tool>,
+    root: &[u8],
     cause: Cause,
-}
-
-/// Why a run ends that searched a database and printed so many paths.
-fn cause_after(outcome: Outcome, matched: u64) -> Cause
-    ensures { result ≡ cause_of outcome matched }
-{
-    match outcome {
-        Outcome::WriteFault => Cause::WriteFault,
-        _ if matched == 0 => Cause::NoMatch,
-        _ => Cause::Done,
-    }
-}
-
-/// Searches the database for the paths in which the pattern occurs, and prints each with a newline.
-fn search_one<R: Reader, P: Sink, L: Ledger>(
-    request: &Search<'_>,
-    reader: &mut R,
-    out: &mut P,
-    blank: Blank,
-) -> Found
-    requires blank_name { blank.name ≡ L.name }
-    requires blank_parts { blank.parts ≡ L.parts }
-    requires has_part { 0 < L.parts }
-    ensures finds { IfSome (R.files reader.old) (λ files. IfSome (map.get files request.now.name.now) (λ file. (result.outcome ≡ Outcome.ReadFault → R.given reader.old ≤ 2 ^ 62) →
-        FindsIn request.now.pattern.now file (R.given reader.new - R.given reader.old) (P.taken out.old) (P.taken out.new) result.outcome result.cause)) }
-    ensures whole { IfSome (R.files reader.old) (λ files. IfSome (map.get files request.now.name.now) (λ file. (Rose (R.faults reader.old) (R.faults reader.new) → ⊥) → (Rose (P.faults out.old) (P.faults out.new) → ⊥) →
-        Located request.now.pattern.now file (P.taken out.old) (P.taken out.new) result.outcome result.cause)) }
-    ensures missing { IfSome (R.files reader.old) (λ files. result.outcome ≡ Outcome.Missing → map.get files request.now.name.now ≡ None) }
-    ensures absent { IfSome (R.files reader.old) (λ files. map.get files request.now.name.now ≡ None → IsTrue (is_missing_or_read_fault result.outcome)) }
-    ensures nothing { IfSome (R.files reader.old) (λ files. map.get files request.now.name.now ≡ None → (out.new ≡ out.old) × (result.cause ≡ Cause.NoMatch)) }
-    ensures unopened { result.outcome ≡ Outcome.Missing → (out.new ≡ out.old) × (result.cause ≡ Cause.NoMatch) }
-    ensures searched { (result.cause ≡ Cause.Usage → ⊥) × (result.cause ≡ Cause.OutOfMemory → ⊥) }
-    ensures read_fault { result.outcome ≡ Outcome.ReadFault → Rose (R.faults reader.old) (R.faults reader.new) }
-    ensures write_fault { result.cause ≡ Cause.WriteFault → Rose (P.faults out.old) (P.faults out.new) }
-    ensures write_cause { result.cause ≡ Cause.WriteFault ↔ (result.outcome ≡ Outcome.WriteFault) }
-    ensures given_rises { R.given reader.old ≤ R.given reader.new }
-    ensures given_within { R.given reader.new ≤ R.given reader.old + 2 ^ 40 }
-    ensures files { R.files reader.new ≡ R.files reader.old }
-    ensures later { R.faults reader.old ≤ R.faults reader.new }
-    ensures out_later { P.faults out.old ≤ P.faults out.new }
-    ensures out_kept { P.kept out.old out.new }
-{
-    let mut matcher = PlainMatcher::new(request.pattern);
-    let query = Query { separator: b'\n' };
-    let mut tally = Tally { matched: 0 };
-    let mut steps = Steps::<L>::new(blank);
-    let outcome = search_by(
-        &mut matcher,
-        &query,
-        request.name,
-        reader,
-        out,
-        &mut tally,
-        &mut steps,
-    );
-    Found {
-        outcome,
-        cause: cause_after(outcome, tally.matched),
-    }
-}
-
-/// The ending of a run that searched no database. Its cause is told.
-fn ended<E: Sink>(alloc: Global, err: &mut E, tool: &str, cause: Cause) -> Ending
-    ensures status { result.status ≡ status_of cause }
+) -> Ending
+    ensures status { result.status ≡ status_of tool cause }
     ensures cause { result.cause ≡ cause }
     ensures outcomes { result.outcomes ≡ [] }
-    ensures told { (Rose (E.faults err.old) (E.faults err.new) → ⊥) → Appends (E.taken err.old) (E.taken err.new) (cause_message tool.now cause) }
-    ensures told_part { AppendsPart (E.taken err.old) (E.taken err.new) (cause_message tool.now cause) }
+    ensures told { (Rose (E.faults err.old) (E.faults err.new) → ⊥) → Appends (E.taken err.old) (E.taken err.new) (cause_message (speaker_of_tool tool) root.now cause) }
+    ensures told_part { AppendsPart (E.taken err.old) (E.taken err.new) (cause_message (speaker_of_tool tool) root.now cause) }
     ensures err_later { E.faults err.old ≤ E.faults err.new }
     ensures err_kept { E.kept err.old err.new }
 {
-    let _ = tell_cause(err, tool, cause);
+    tell_end(err, false, speaker(tool), root, cause);
     Ending {
-        status: cause.status(),
+        status: cause.status(tool),
         cause,
         outcomes: Outcomes::new(Vec::new(alloc)),
     }
 }
 
-/// Does what the words ask for, and tells on `err` how each database and the run ended. A failed write to `err` changes
-/// no answer. All memory is taken before the database is opened.
-pub fn run<R: Reader, P: Sink, E: Sink>(
+/// The run of `locate`.
+fn run_locate<R: Reader, G: Gate, P: BufferedSink, E: Sink>(
     alloc: Global,
-    call: &Call,
+    asked: &LocateSettings<'_>,
     reader: &mut R,
+    gate: &mut G,
     out: &mut P,
     err: &mut E,
 ) -> Ending
-    ensures status { result.status ≡ status_of result.cause }
-    ensures usage { result.cause ≡ Cause.Usage ↔ (asked call.now ≡ None) }
-    ensures outcomes { length result.outcomes ≡ outcome_count (asked call.now) result.cause }
-    ensures refused { result.cause ≡ Cause.Usage → (reader.new ≡ reader.old) × (out.new ≡ out.old) }
-    ensures no_memory { result.cause ≡ Cause.OutOfMemory → (reader.new ≡ reader.old) × (out.new ≡ out.old) }
-    ensures missing { IfSome (asked call.now) (λ request. IfSome (R.files reader.old) (λ files. result.outcomes ≡ Outcome.Missing ∷ [] → map.get files request.name ≡ None)) }
-    ensures absent { IfSome (asked call.now) (λ request. IfSome (R.files reader.old) (λ files. map.get files request.name ≡ None → OfOutcome result.outcomes (λ outcome. IsTrue (is_missing_or_read_fault outcome)))) }
-    ensures nothing { IfSome (asked call.now) (λ request. IfSome (R.files reader.old) (λ files. map.get files request.name ≡ None → (out.new ≡ out.old) × OfOutcome result.outcomes (λ outcome. result.cause ≡ Cause.NoMatch))) }
-    ensures unopened { result.outcomes ≡ Outcome.Missing ∷ [] → (out.new ≡ out.old) × (result.cause ≡ Cause.NoMatch) }
-    ensures finds { IfSome (asked call.now) (λ request. IfSome (R.files reader.old) (λ files. IfSome (map.get files request.name) (λ file. (result.outcomes ≡ Outcome.ReadFault ∷ [] → R.given reader.old ≤ 2 ^ 62) →
-        OfOutcome result.outcomes (λ outcome. FindsIn request.pattern file (R.given reader.new - R.given reader.old) (P.taken out.old) (P.taken out.new) outcome result.cause)))) }
-    ensures whole { IfSome (asked call.now) (λ request. IfSome (R.files reader.old) (λ files. IfSome (map.get files request.name) (λ file. (Rose (R.faults reader.old) (R.faults reader.new) → ⊥) → (Rose (P.faults out.old) (P.faults out.new) → ⊥) →
-        OfOutcome result.outcomes (λ outcome. Located request.pattern file (P.taken out.old) (P.taken out.new) outcome result.cause)))) }
-    ensures read_fault { result.outcomes ≡ Outcome.ReadFault ∷ [] → Rose (R.faults reader.old) (R.faults reader.new) }
-    ensures write_fault { result.cause ≡ Cause.WriteFault → Rose (P.faults out.old) (P.faults out.new) }
-    ensures write_cause { result.cause ≡ Cause.WriteFault ↔ (result.outcomes ≡ Outcome.WriteFault ∷ []) }
+    ensures status { result.status ≡ status_of (Some Tool.Locate) result.cause }
+    ensures usage { result.cause ≡ Cause.Usage → ⊥ }
+    ensures unopened { result.cause ≡ Cause.OutOfMemory → (reader.new ≡ reader.old) × (gate.new ≡ gate.old) × (out.new ≡ out.old) }
+    ensures run { LocateRun (locate_seen asked.now) (known (R.files reader.old) (G.tests gate.old))
+        (standing (R.given reader.old) (G.asks gate.old) 0 0 (P.taken out.old) (R.faults reader.old) (G.faults gate.old) (P.faults out.old))
+        (standing (R.given reader.new) (G.asks gate.new) 0 0 (P.taken out.new) (R.faults reader.new) (G.faults gate.new) (P.faults out.new))
+        result.outcomes result.cause }
+    ensures told { (Rose (E.faults err.old) (E.faults err.new) → ⊥) → Appends (E.taken err.old) (E.taken err.new) (messages asked.now.quiet (databases_of (locate_seen asked.now)) result.outcomes ++ cause_message (speaker_of_tool (Some Tool.Locate)) [] result.cause) }
+    ensures told_part { AppendsPart (E.taken err.old) (E.taken err.new) (messages asked.now.quiet (databases_of (locate_seen asked.now)) result.outcomes ++ cause_message (speaker_of_tool (Some Tool.Locate)) [] result.cause) }
+    ensures files { R.files reader.new ≡ R.files reader.old }
+    ensures tests { G.tests gate.new ≡ G.tests gate.old }
+    ensures gate_kept { G.kept gate.old gate.new }
+    ensures out_kept { P.kept out.old out.new }
+    ensures err_kept { E.kept err.old err.new }
+    ensures err_later { E.faults err.old ≤ E.faults err.new }
+{
+    let found = locate::<R, G, P, E, Brand>(alloc, asked, reader, gate, out, err, Blank::new(1));
+    tell_end(
+        err,
+        found.silent,
+        speaker(Some(Tool::Locate)),
+        b"",
+        found.cause,
+    );
+    Ending {
+        status: found.cause.status(Some(Tool::Locate)),
+        cause: found.cause,
+        outcomes: found.outcomes,
+    }
+}
+
+/// The run of `updatedb`.
+fn run_updatedb<R: Reader, T: Tree, O: Output, P: BufferedSink, E: Sink>(
+    alloc: Global,
+    asked: &UpdatedbSettings<'_>,
+    now: Stamp,
+    reader: &mut R,
+    tree: &mut T,
+    output: &mut O,
+    out: &mut P,
+    err: &mut E,
+) -> Ending
+    ensures status { result.status ≡ status_of (Some Tool.Updatedb) result.cause }
+    ensures usage { result.cause ≡ Cause.Usage → ⊥ }
+    ensures outcomes { result.outcomes ≡ [] }
+    ensures run { UpdatedbRun (updatedb_seen asked.now) now
+        (record { files = R.files reader.old; given = R.given reader.old; reads_failed = R.faults reader.old; dirs = T.dirs tree.old; openings = T.openings tree.old; stats = T.stats tree.old; priced = T.priced tree.old; tree_failed = T.faults tree.old; held = O.held output.old; output_failed = O.faults output.old; taken = P.taken out.old; writes_failed = P.faults out.old })
+        (record { files = R.files reader.new; given = R.given reader.new; reads_failed = R.faults reader.new; dirs = T.dirs tree.new; openings = T.openings tree.new; stats = T.stats tree.new; priced = T.priced tree.new; tree_failed = T.faults tree.new; held = O.held output.new; output_failed = O.faults output.new; taken = P.taken out.new; writes_failed = P.faults out.new })
+        result.cause }
+    ensures told { (Rose (E.faults err.old) (E.faults err.new) → ⊥) → Appends (E.taken err.old) (E.taken err.new) (cause_message (speaker_of_tool (Some Tool.Updatedb)) asked.now.root.now result.cause) }
+    ensures told_part { AppendsPart (E.taken err.old) (E.taken err.new) (cause_message (speaker_of_tool (Some Tool.Updatedb)) asked.now.root.now result.cause) }
+    ensures files { R.files reader.new ≡ R.files reader.old }
+    ensures tree_kept { T.kept tree.old tree.new }
+    ensures out_kept { P.kept out.old out.new }
+    ensures err_kept { E.kept err.old err.new }
+    ensures err_later { E.faults err.old ≤ E.faults err.new }
+{
+    let cause = updatedb(alloc, asked, now, reader, tree, output, out);
+    ended(
+        alloc,
+        err,
+        Some(Tool::Updatedb),
+        asked.root.as_bytes(),
+        cause,
+    )
+}
+
+/// Does what the words ask for. `updatedb` stores a complete scan of a tree under the name of its output, and leaves the
+/// stored files as they were on every cause but `Done`. `locate` prints the paths of its databases that match, or writes
+/// their statistics, and tells on `err` how each ended; all its memory is taken before the first is opened. What was
+/// written to `out` is passed on before a message about it. Where the cause is not `Done` or `NoMatch`, a message on `err`
+/// tells it. A failed write to `err` changes no answer, and nothing more is written there.
+pub fn run<R: Reader, T: Tree, G: Gate, O: Output, P: BufferedSink, E: Sink>(
+    alloc: Global,
+    call: &Call,
+    reader: &mut R,
+    tree: &mut T,
+    gate: &mut G,
+    output: &mut O,
+    out: &mut P,
+    err: &mut E,
+) -> Ending
+    ensures status { result.status ≡ status_of (tool_called call.now) result.cause }
+    ensures usage { result.cause ≡ Cause.Usage → request_of call.now ≡ None }
+    ensures refused { request_of call.now ≡ None → ((result.cause ≡ Cause.Usage) ⊎ (result.cause ≡ Cause.OutOfMemory)) × (result.outcomes ≡ []) }
+    ensures untouched { request_of call.now ≡ None → (reader.new ≡ reader.old) × (tree.new ≡ tree.old) × (gate.new ≡ gate.old) × (output.new ≡ output.old) × (out.new ≡ out.old) }
     ensures told { (Rose (E.faults err.old) (E.faults err.new) → ⊥) → Appends (E.taken err.old) (E.taken err.new) (told call.now result.outcomes result.cause) }
     ensures told_part { AppendsPart (E.taken err.old) (E.taken err.new) (told call.now result.outcomes result.cause) }
-    ensures given_rises { R.given reader.old ≤ R.given reader.new }
-    ensures given_within { R.given reader.new ≤ R.given reader.old + 2 ^ 40 }
+    ensures locate { IsLocate (request_of call.now) (λ asked. LocateRun asked (known (R.files reader.old) (G.tests gate.old))
+        (standing (R.given reader.old) (G.asks gate.old) 0 0 (P.taken out.old) (R.faults reader.old) (G.faults gate.old) (P.faults out.old))
+        (standing (R.given reader.new) (G.asks gate.new) 0 0 (P.taken out.new) (R.faults reader.new) (G.faults gate.new) (P.faults out.new))
+        result.outcomes result.cause) }
+    ensures locate_unopened { IsLocate (request_of call.now) (λ asked. result.cause ≡ Cause.OutOfMemory → (reader.new ≡ reader.old) × (gate.new ≡ gate.old) × (out.new ≡ out.old)) }
+    ensures locate_alone { IsLocate (request_of call.now) (λ asked. (tree.new ≡ tree.old) × (output.new ≡ output.old)) }
+    ensures updatedb { IsUpdatedb (request_of call.now) (λ asked. UpdatedbRun asked call.now.moment
+        (record { files = R.files reader.old; given = R.given reader.old; reads_failed = R.faults reader.old; dirs = T.dirs tree.old; openings = T.openings tree.old; stats = T.stats tree.old; priced = T.priced tree.old; tree_failed = T.faults tree.old; held = O.held output.old; output_failed = O.faults output.old; taken = P.taken out.old; writes_failed = P.faults out.old })
+        (record { files = R.files reader.new; given = R.given reader.new; reads_failed = R.faults reader.new; dirs = T.dirs tree.new; openings = T.openings tree.new; stats = T.stats tree.new; priced = T.priced tree.new; tree_failed = T.faults tree.new; held = O.held output.new; output_failed = O.faults output.new; taken = P.taken out.new; writes_failed = P.faults out.new })
+        result.cause) }
+    ensures updatedb_alone { IsUpdatedb (request_of call.now) (λ asked. (result.outcomes ≡ []) × (gate.new ≡ gate.old)) }
     ensures files { R.files reader.new ≡ R.files reader.old }
-    ensures later { R.faults reader.old ≤ R.faults reader.new }
-    ensures out_later { P.faults out.old ≤ P.faults out.new }
+    ensures tree_kept { T.kept tree.old tree.new }
+    ensures gate_kept { G.kept gate.old gate.new }
     ensures out_kept { P.kept out.old out.new }
-    ensures err_later { E.faults err.old ≤ E.faults err.new }
     ensures err_kept { E.kept err.old err.new }
+    ensures err_later { E.faults err.old ≤ E.faults err.new }
 {
-    let Some(request) = call.asked() else {
-        return ended(alloc, err, call.tool(), Cause::Usage);
+    let task = match call.task(alloc) {
+        Ok(task) => task,
+        Err(WordsFault::Usage) => return ended(alloc, err, call.tool(), b"", Cause::Usage),
+        Err(WordsFault::OutOfMemory) => {
+            return ended(alloc, err, call.tool(), b"", Cause::OutOfMemory);
+        }
     };
-    let Ok(mut outcomes) = Vec::with_capacity(alloc, 1) else {
-        return ended(alloc, err, call.tool(), Cause::OutOfMemory);
-    };
-    let found = search_one::<R, P, Brand>(&request, reader, out, Blank::new(1));
-    let Ok(()) = outcomes.push(found.outcome) else {
-        unreachable!()
-    };
-    report(err, call.tool(), request.name, found.outcome, found.cause);
-    Ending {
-        status: found.cause.status(),
-        cause: found.cause,
-        outcomes: Outcomes::new(outcomes),
+    match task {
+        Task::Locate(asked) => run_locate(alloc, &asked, reader, gate, out, err),
+        Task::Updatedb(asked) => run_updatedb(
+            alloc,
+            &asked,
+            call.moment(),
+            reader,
+            tree,
+            output,
+            out,
+            err,
+        ),
     }
 }

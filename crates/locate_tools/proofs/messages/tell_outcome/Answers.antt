@@ -8,3 +8,9 @@ returns-in-NotADatabase-clause-ok g c = rw c.in-NotADatabase.is c.tell_about-in-
 
 pub returns-in-NotADatabase-clause-part : goal.returns-in-NotADatabase-clause-part
 returns-in-NotADatabase-clause-part g c = rw c.in-NotADatabase.is c.tell_about-in-NotADatabase.ensures.part
+
+pub returns-in-GateFault-clause-ok : goal.returns-in-GateFault-clause-ok
+returns-in-GateFault-clause-ok g c = rw c.in-GateFault.is c.tell_about-in-GateFault.ensures.ok
+
+pub returns-in-GateFault-clause-part : goal.returns-in-GateFault-clause-part
+returns-in-GateFault-clause-part g c = rw c.in-GateFault.is c.tell_about-in-GateFault.ensures.part

@@ -1,33 +1,41 @@
-use Rattle.std.proofs.Common.{◌≡◌, [], ◌∷◌, ◌++◌, List, refl, ap, ◌∙◌}
-use Rattle.locate_engine.specs.declared.outcome.Outcome.{Outcome}
-use Rattle.locate_tools.proofs.Ran.{told_in_part, whole_of, finds_of, nothing_of}
+use Rattle.std.proofs.Common.{ap, sym, subst, ◌∙◌, ℕ, List, Option}
+use Rattle.std.specs.Io.KnownBytes.{Appends}
+use Rattle.loc_outside.specs.Outside.{AppendsPart}
+use Rattle.tool_words.specs.declared.tool.Tool.{Tool}
+use Rattle.locate_tools.specs.Statuses.{status_of}
+use Rattle.locate_tools.proofs.ToldOf.{told_locate, told_updatedb, tool_of_locate, tool_of_updatedb}
+use Rattle.locate_tools.proofs.Updating.{unasked}
 use Rattle.locate_tools.proofs.run.run.Goals as goal
 
-pub returns-clause-whole : goal.returns-clause-whole
-returns-clause-whole g c =
-    let found = c.search_one-found.result in
-    let request = c.in-Some.request in
-    let one : c.new-2.result ≡ found.outcome ∷ [] = c.new-2.ensures ∙ c.in-Ok-push.ensures.items ∙ ap (λ (before : List Outcome). before ++ found.outcome ∷ []) c.in-Ok.ensures.items in
-    whole_of _ (g.R.Reader.files c.args.reader.now) _ _ c.new-2.result found.outcome found.cause _ _ (record { name = request.name.now; pattern = request.pattern.now }) c.in-Some.ensures one c.search_one-found.ensures.whole
+pub returns-in-Err-OutOfMemory-clause-updatedb : goal.returns-in-Err-OutOfMemory-clause-updatedb
+returns-in-Err-OutOfMemory-clause-updatedb g c = unasked _ _ _ _ c.ended-in-Err-OutOfMemory.ensures.cause
 
-pub returns-clause-told_part : goal.returns-clause-told_part
-returns-clause-told_part g c =
-    let found = c.search_one-found.result in
-    let request = c.in-Some.request in
-    let one : c.new-2.result ≡ found.outcome ∷ [] = c.new-2.ensures ∙ c.in-Ok-push.ensures.items ∙ ap (λ (before : List Outcome). before ++ found.outcome ∷ []) c.in-Ok.ensures.items in
-    told_in_part (g.E.Sink.taken c.args.err.now) (g.E.Sink.taken c.report.new.err) c.args.call.now (record { name = request.name.now; pattern = request.pattern.now })
-    c.tool-2.result.now request.name.now c.new-2.result found.outcome found.cause c.tool-2.ensures c.in-Some.ensures refl one c.report.ensures.part
+pub returns-in-Locate-clause-status : goal.returns-in-Locate-clause-status
+returns-in-Locate-clause-status g c =
+    let asks = rw c.in-Locate.is at c.in-Ok.ensures.accepted in
+    c.run_locate.ensures.status ∙ ap (λ (t : Option Tool). status_of t c.run_locate.result.cause) (sym (tool_of_locate _ _ asks))
 
-pub returns-clause-finds : goal.returns-clause-finds
-returns-clause-finds g c =
-    let found = c.search_one-found.result in
-    let request = c.in-Some.request in
-    let one : c.new-2.result ≡ found.outcome ∷ [] = c.new-2.ensures ∙ c.in-Ok-push.ensures.items ∙ ap (λ (before : List Outcome). before ++ found.outcome ∷ []) c.in-Ok.ensures.items in
-    finds_of _ (g.R.Reader.files c.args.reader.now) _ _ _ _ c.new-2.result found.outcome found.cause (record { name = request.name.now; pattern = request.pattern.now }) c.in-Some.ensures one c.search_one-found.ensures.finds
+pub returns-in-Locate-clause-told : goal.returns-in-Locate-clause-told
+returns-in-Locate-clause-told g c =
+    let asks = rw c.in-Locate.is at c.in-Ok.ensures.accepted in
+    λ none. subst (λ (x : List ℕ). Appends (g.E.Sink.taken c.args.err.now) (g.E.Sink.taken c.run_locate.new.err) x) (told_locate _ _ c.run_locate.result.outcomes c.run_locate.result.cause asks) (c.run_locate.ensures.told none)
 
-pub returns-clause-nothing : goal.returns-clause-nothing
-returns-clause-nothing g c =
-    let found = c.search_one-found.result in
-    let request = c.in-Some.request in
-    let one : c.new-2.result ≡ found.outcome ∷ [] = c.new-2.ensures ∙ c.in-Ok-push.ensures.items ∙ ap (λ (before : List Outcome). before ++ found.outcome ∷ []) c.in-Ok.ensures.items in
-    nothing_of _ (g.R.Reader.files c.args.reader.now) _ c.new-2.result found.outcome found.cause (record { name = request.name.now; pattern = request.pattern.now }) c.in-Some.ensures one c.search_one-found.ensures.nothing
+pub returns-in-Locate-clause-told_part : goal.returns-in-Locate-clause-told_part
+returns-in-Locate-clause-told_part g c =
+    let asks = rw c.in-Locate.is at c.in-Ok.ensures.accepted in
+    subst (λ (x : List ℕ). AppendsPart (g.E.Sink.taken c.args.err.now) (g.E.Sink.taken c.run_locate.new.err) x) (told_locate _ _ c.run_locate.result.outcomes c.run_locate.result.cause asks) c.run_locate.ensures.told_part
+
+pub returns-in-Updatedb-clause-status : goal.returns-in-Updatedb-clause-status
+returns-in-Updatedb-clause-status g c =
+    let asks = rw c.in-Updatedb.is at c.in-Ok.ensures.accepted in
+    c.run_updatedb.ensures.status ∙ ap (λ (t : Option Tool). status_of t c.run_updatedb.result.cause) (sym (tool_of_updatedb _ _ asks))
+
+pub returns-in-Updatedb-clause-told : goal.returns-in-Updatedb-clause-told
+returns-in-Updatedb-clause-told g c =
+    let asks = rw c.in-Updatedb.is at c.in-Ok.ensures.accepted in
+    λ none. rw c.run_updatedb.ensures.outcomes (subst (λ (x : List ℕ). Appends (g.E.Sink.taken c.args.err.now) (g.E.Sink.taken c.run_updatedb.new.err) x) (told_updatedb _ _ c.run_updatedb.result.cause asks) (c.run_updatedb.ensures.told none))
+
+pub returns-in-Updatedb-clause-told_part : goal.returns-in-Updatedb-clause-told_part
+returns-in-Updatedb-clause-told_part g c =
+    let asks = rw c.in-Updatedb.is at c.in-Ok.ensures.accepted in
+    rw c.run_updatedb.ensures.outcomes (subst (λ (x : List ℕ). AppendsPart (g.E.Sink.taken c.args.err.now) (g.E.Sink.taken c.run_updatedb.new.err) x) (told_updatedb _ _ c.run_updatedb.result.cause asks) c.run_updatedb.ensures.told_part)

@@ -1,0 +1,55 @@
+-- The query of the words.
+use Rattle.std.proofs.Common.{◌≡◌, ℕ, ◌<◌, Bool, List, [], ◌∷◌, Option, map, refl, sym, ap, subst, ◌∙◌}
+use Rattle.std.specs.Prelude.{IfSome}
+use Rattle.glob_match.specs.Pattern.{Wanted, wanted}
+use Rattle.locate_engine.specs.declared.query.Query.{Query}
+use Rattle.locate_engine.specs.declared.outcome.Outcome.{Outcome}
+use Rattle.tool_words.specs.Locate.{LocateAsked}
+use Rattle.loc_outside.specs.Files.{Files}
+use Rattle.loc_outside.specs.Gates.{Tests}
+use Rattle.locate_tools.specs.Located.{databases_of, query_of}
+use Rattle.locate_tools.specs.Standing.{Standing, Goes, IsComplete, standing}
+use Rattle.locate_tools.specs.Tried.{Known, Tried}
+use Rattle.locate_tools.specs.Ran.{Concludes, LocateRan}
+use Rattle.locate_tools.specs.declared.answer.Cause.{Cause}
+
+-- the patterns of texts, and of their bytes
+patterns_of : {X : Type 0} (now : X → List ℕ) (fold : Bool) (xs : List X) → map (λ (x : X). wanted (now x) fold) xs ≡ map (λ pattern. wanted pattern fold) (map now xs)
+patterns_of now fold [] = refl
+patterns_of now fold (x ∷ xs) = ap (λ (ws : List Wanted). wanted (now x) fold ∷ ws) (patterns_of now fold xs)
+
+pub query_is : {X : Type 0} (now : X → List ℕ) (asked : LocateAsked) (globs : List Wanted) (xs : List X) → globs ≡ map (λ (x : X). wanted (now x) asked.fold) xs → map now xs ≡ asked.patterns
+    → record { globs = globs; all = asked.all; base = asked.base; existing = asked.existing; follow = asked.follow; separator = asked.separator; limit = asked.limit; count_only = asked.count_only } ≡ query_of asked
+query_is now asked globs xs is texts =
+    let same : globs ≡ map (λ pattern. wanted pattern asked.fold) asked.patterns = is ∙ patterns_of now asked.fold xs ∙ ap (map (λ pattern. wanted pattern asked.fold)) texts in
+    ap (λ (gs : List Wanted). record { globs = gs; all = asked.all; base = asked.base; existing = asked.existing; follow = asked.follow; separator = asked.separator; limit = asked.limit; count_only = asked.count_only }) same
+
+-- below the limit of the query
+pub below_query : (q r : Query) → q ≡ r → IfSome r.limit (λ limit. 0 < limit) → IfSome q.limit (λ limit. 0 < limit)
+below_query q r is below = subst (λ (x : Query). IfSome x.limit (λ limit. 0 < limit)) (sym is) below
+
+-- a run, from its parts
+pub ran_by : (asked : LocateAsked) (k : Known) (s s' t : Standing) (os items : List Outcome) (cause : Cause) (q : Query) (names : List (List ℕ))
+    → q ≡ query_of asked → names ≡ databases_of asked → os ≡ items
+    → Goes (Tried asked.statistics q k) names items s t → IsComplete names items
+    → Concludes asked items t.matched t.taken s'.taken t.writes_failed s'.writes_failed cause
+    → s'.given ≡ t.given → s'.asks ≡ t.asks → s'.reads_failed ≡ t.reads_failed → s'.gate_failed ≡ t.gate_failed
+    → LocateRan asked k s s' os cause
+ran_by asked k s s' t os items cause q names query databases is goes complete concludes given asks reads gate =
+    subst (λ (l : List Outcome). LocateRan asked k s s' l cause) (sym is)
+    (record {
+      after = t;
+      goes = subst (λ (x : Query). Goes (Tried asked.statistics x k) (databases_of asked) items s t) query (subst (λ (ns : List (List ℕ)). Goes (Tried asked.statistics q k) ns items s t) databases goes);
+      complete = subst (λ (ns : List (List ℕ)). IsComplete ns items) databases complete;
+      concludes = concludes;
+      given = given;
+      asks = asks;
+      reads_failed = reads;
+      gate_failed = gate;
+    })
+
+-- a run whose counter of steps stands at 0
+pub from_no_step : (asked : LocateAsked) (k : Known) (given asks matched n : ℕ) (taken : Option (List ℕ)) (reads gate writes : ℕ) (s' : Standing) (os : List Outcome) (cause : Cause)
+    → n ≡ 0 → LocateRan asked k (standing given asks matched n taken reads gate writes) s' os cause → LocateRan asked k (standing given asks matched 0 taken reads gate writes) s' os cause
+from_no_step asked k given asks matched n taken reads gate writes s' os cause none ran =
+    subst (λ (m : ℕ). LocateRan asked k (standing given asks matched m taken reads gate writes) s' os cause) none ran

@@ -1,0 +1,132 @@
+-- What is told of a run, by what it was to do.
+use Rattle.std.proofs.Common.{◌≡◌, ℕ, Bool, true, false, List, [], ◌∷◌, ◌++◌, Option, Some, None, refl, sym, ap, subst, ◌∙◌}
+use Rattle.std.specs.Prelude.{option_map}
+use Rattle.locate_engine.specs.declared.outcome.Outcome.{Outcome}
+use Rattle.tool_words.specs.Asked.{Asked, Updatedb, Locate, Convert, Exercise, asked, asked_of}
+use Rattle.tool_words.specs.Convert.{ConvertAsked}
+use Rattle.tool_words.specs.Exercise.{ExerciseAsked}
+use Rattle.tool_words.specs.Locate.{LocateAsked, locate_asked}
+use Rattle.tool_words.specs.Updatedb.{UpdatedbAsked, updatedb_asked}
+use Rattle.tool_words.specs.Convert.{convert_asked}
+use Rattle.tool_words.specs.Exercise.{exercise_asked}
+use Rattle.tool_words.specs.Values.{◌>>=◌}
+use Rattle.tool_words.specs.Tools.{speaker, tool_of}
+use Rattle.tool_words.specs.declared.tool.Tool.{Tool}
+use Rattle.tool_words.specs.declared.tool.Tool.TheVariants as tools
+use Rattle.locate_tools.specs.declared.answer.Cause.{Cause}
+use Rattle.locate_tools.specs.declared.answer.Cause.TheVariants as causes
+use Rattle.locate_tools.specs.Calls.{CallMade, IsLocate, IsUpdatedb, built, request_of, root_of, tool_called}
+use Rattle.locate_tools.specs.Located.{databases_of}
+use Rattle.locate_tools.specs.Messages.{cause_message}
+use Rattle.locate_tools.specs.Told.{messages, messages_of, told}
+
+-- ---- the tool of a request
+
+-- which tool has this work
+abbrev tool_for : Asked → Tool
+tool_for (Updatedb u) = tools.Updatedb
+tool_for (Locate l) = tools.Locate
+tool_for (Convert v) = tools.Convert
+tool_for (Exercise e) = tools.Exercise
+
+updatedb_only : (o : Option UpdatedbAsked) (a : Asked) → (option_map Updatedb o >>= built) ≡ Some a → tools.Updatedb ≡ tool_for a
+updatedb_only None a is = absurd cc
+updatedb_only (Some u) a is = let same : Updatedb u ≡ a = cc in ap tool_for same
+
+locate_only : (o : Option LocateAsked) (a : Asked) → (option_map Locate o >>= built) ≡ Some a → tools.Locate ≡ tool_for a
+locate_only None a is = absurd cc
+locate_only (Some l) a is = let same : Locate l ≡ a = cc in ap tool_for same
+
+convert_never : (o : Option ConvertAsked) (a : Asked) → (option_map Convert o >>= built) ≡ Some a → ⊥
+convert_never None a is = absurd cc
+convert_never (Some v) a is = absurd cc
+
+exercise_never : (o : Option ExerciseAsked) (a : Asked) → (option_map Exercise o >>= built) ≡ Some a → ⊥
+exercise_never None a is = absurd cc
+exercise_never (Some e) a is = absurd cc
+
+by_tool : (t : Option Tool) (words : List (List ℕ)) (path : Option (List ℕ)) (a : Asked) → ((t >>= (λ tool. asked_of tool words path)) >>= built) ≡ Some a → t ≡ Some (tool_for a)
+by_tool None words path a is = absurd cc
+by_tool (Some tools.Updatedb) words path a is = ap (λ (t : Tool). Some t) (updatedb_only (updatedb_asked words) a is)
+by_tool (Some tools.Locate) words path a is = ap (λ (t : Tool). Some t) (locate_only (locate_asked words path) a is)
+by_tool (Some tools.Convert) words path a is = absurd (convert_never (convert_asked words) a is)
+by_tool (Some tools.Exercise) words path a is = absurd (exercise_never (exercise_asked words) a is)
+
+tool_asked : (call : CallMade) (a : Asked) → request_of call ≡ Some a → tool_called call ≡ Some (tool_for a)
+unfolding request_of asked
+tool_asked call a is = by_tool (tool_of call.words) call.words call.locate_path a is
+
+pub tool_of_locate : (call : CallMade) (a : LocateAsked) → request_of call ≡ Some (Locate a) → tool_called call ≡ Some tools.Locate
+tool_of_locate call a is = tool_asked call (Locate a) is
+
+pub tool_of_updatedb : (call : CallMade) (a : UpdatedbAsked) → request_of call ≡ Some (Updatedb a) → tool_called call ≡ Some tools.Updatedb
+tool_of_updatedb call a is = tool_asked call (Updatedb a) is
+
+-- ---- what is told
+
+no_messages : (quiet : Bool) (names : List (List ℕ)) → messages quiet names [] ≡ []
+no_messages true names = refl
+no_messages false names = refl
+
+none_of : (r : Option Asked) → messages_of r [] ≡ []
+none_of None = refl
+none_of (Some (Updatedb u)) = refl
+none_of (Some (Locate l)) = no_messages l.quiet (databases_of l)
+none_of (Some (Convert v)) = refl
+none_of (Some (Exercise e)) = refl
+
+-- where the words are refused
+pub told_refused : (call : CallMade) (tool : Option Tool) (cause : Cause) → tool ≡ tool_called call → request_of call ≡ None → cause_message (speaker tool) [] cause ≡ told call [] cause
+told_refused call tool cause is none =
+    ap (λ (t : Option Tool). cause_message (speaker t) [] cause) is
+    ∙ sym (ap (λ (r : Option Asked). messages_of r [] ++ cause_message (speaker (tool_called call)) (root_of r) cause) none)
+
+-- where there is no memory for the words
+pub told_memory : (call : CallMade) (tool : Option Tool) → tool ≡ tool_called call → cause_message (speaker tool) [] causes.OutOfMemory ≡ told call [] causes.OutOfMemory
+told_memory call tool is =
+    ap (λ (t : Option Tool). cause_message (speaker t) [] causes.OutOfMemory) is
+    ∙ sym (ap (λ (text : List ℕ). text ++ cause_message (speaker (tool_called call)) (root_of (request_of call)) causes.OutOfMemory) (none_of (request_of call)))
+
+pub told_locate : (call : CallMade) (a : LocateAsked) (os : List Outcome) (cause : Cause) → request_of call ≡ Some (Locate a) → messages a.quiet (databases_of a) os ++ cause_message (speaker (Some tools.Locate)) [] cause ≡ told call os cause
+told_locate call a os cause is =
+    ap (λ (t : Option Tool). messages a.quiet (databases_of a) os ++ cause_message (speaker t) [] cause) (sym (tool_of_locate call a is))
+    ∙ sym (ap (λ (r : Option Asked). messages_of r os ++ cause_message (speaker (tool_called call)) (root_of r) cause) is)
+
+pub told_updatedb : (call : CallMade) (a : UpdatedbAsked) (cause : Cause) → request_of call ≡ Some (Updatedb a) → cause_message (speaker (Some tools.Updatedb)) a.root cause ≡ told call [] cause
+told_updatedb call a cause is =
+    ap (λ (t : Option Tool). cause_message (speaker t) a.root cause) (sym (tool_of_updatedb call a is))
+    ∙ sym (ap (λ (r : Option Asked). messages_of r [] ++ cause_message (speaker (tool_called call)) (root_of r) cause) is)
+
+-- ---- what holds by tool
+
+pub is_locate : (r : Option Asked) (a : LocateAsked) (P : LocateAsked → Type 0) → r ≡ Some (Locate a) → P a → IsLocate r P
+is_locate r a P is fact = subst (λ (x : Option Asked). IsLocate x P) (sym is) fact
+
+pub no_locate : (r : Option Asked) (a : UpdatedbAsked) (P : LocateAsked → Type 0) → r ≡ Some (Updatedb a) → IsLocate r P
+no_locate r a P is = subst (λ (x : Option Asked). IsLocate x P) (sym is) tt
+
+pub is_updatedb : (r : Option Asked) (a : UpdatedbAsked) (P : UpdatedbAsked → Type 0) → r ≡ Some (Updatedb a) → P a → IsUpdatedb r P
+is_updatedb r a P is fact = subst (λ (x : Option Asked). IsUpdatedb x P) (sym is) fact
+
+pub no_updatedb : (r : Option Asked) (a : LocateAsked) (P : UpdatedbAsked → Type 0) → r ≡ Some (Locate a) → IsUpdatedb r P
+no_updatedb r a P is = subst (λ (x : Option Asked). IsUpdatedb x P) (sym is) tt
+
+pub any_locate : (r : Option Asked) (P : LocateAsked → Type 0) → ((a : LocateAsked) → P a) → IsLocate r P
+any_locate None P all = tt
+any_locate (Some (Updatedb u)) P all = tt
+any_locate (Some (Locate l)) P all = all l
+any_locate (Some (Convert v)) P all = tt
+any_locate (Some (Exercise e)) P all = tt
+
+pub any_updatedb : (r : Option Asked) (P : UpdatedbAsked → Type 0) → ((a : UpdatedbAsked) → P a) → IsUpdatedb r P
+any_updatedb None P all = tt
+any_updatedb (Some (Updatedb u)) P all = all u
+any_updatedb (Some (Locate l)) P all = tt
+any_updatedb (Some (Convert v)) P all = tt
+any_updatedb (Some (Exercise e)) P all = tt
+
+pub none_locate : (r : Option Asked) (P : LocateAsked → Type 0) → r ≡ None → IsLocate r P
+none_locate r P is = subst (λ (x : Option Asked). IsLocate x P) (sym is) tt
+
+pub none_updatedb : (r : Option Asked) (P : UpdatedbAsked → Type 0) → r ≡ None → IsUpdatedb r P
+none_updatedb r P is = subst (λ (x : Option Asked). IsUpdatedb x P) (sym is) tt

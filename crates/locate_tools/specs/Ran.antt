@@ -1,0 +1,76 @@
+-- What a run of `locate` does, whatever failed.
+use Rattle.std.specs.Prelude.{◌≡◌, ℕ, ◌+◌, ◌≤◌, min, Bool, true, false, List, [], ◌∷◌, ◌++◌, Option, Some, IsTrue, decimal, length, filter, if◌then◌else◌}
+use Rattle.std.specs.List.{list_any}
+use Rattle.std.specs.Io.KnownBytes.{Appends}
+use Rattle.loc_outside.specs.Causes.{Rose, last_count}
+use Rattle.loc_outside.specs.Files.{Files}
+use Rattle.loc_outside.specs.Outside.{AppendsPart}
+use Rattle.tool_words.specs.Locate.{LocateAsked}
+use Rattle.locate_engine.specs.declared.outcome.Outcome.{Outcome}
+use Rattle.locate_engine.specs.declared.outcome.Outcome.TheVariants as outcomes
+use Rattle.locate_tools.specs.Standing.{Standing, Goes, IsComplete}
+use Rattle.locate_tools.specs.Counted.{CountsAll}
+use Rattle.locate_tools.specs.Located.{World, Locates, query_of, databases_of, cause_of}
+use Rattle.locate_tools.specs.Tried.{Known, NoneFailed, Tried}
+use Rattle.locate_tools.specs.declared.answer.Cause.{Cause}
+use Rattle.locate_tools.specs.declared.answer.Cause.TheVariants as causes
+
+abbrev pub is_write_fault : Outcome → Bool
+is_write_fault outcomes.WriteFault = true
+is_write_fault outcome = false
+
+-- the number of paths is written in place of the paths
+abbrev pub numbers : LocateAsked → Bool
+numbers asked = if asked.statistics then false else asked.count_only
+
+abbrev pub number_text : LocateAsked → ℕ → List ℕ
+number_text asked matched = if numbers asked then decimal matched ++ 10 ∷ [] else []
+
+-- why a run ends in which no write failed
+abbrev pub cause_after : LocateAsked → ℕ → Cause
+cause_after asked matched = if asked.statistics then causes.Done else cause_of asked.limit matched
+
+-- The end of a run, after its databases: a failed write ends it; else the number of paths is written where it is asked
+-- for, and the cause is told by what was found, unless that write fails.
+pub record Concludes (asked : LocateAsked) (outcomes : List Outcome) (matched : ℕ) (taken taken' : Option (List ℕ)) (failed failed' : ℕ) (cause : Cause) : Type 0 where
+  pub later : failed ≤ failed'
+  pub stops : list_any is_write_fault outcomes ≡ true → (cause ≡ causes.WriteFault) × (taken' ≡ taken)
+  pub writes : list_any is_write_fault outcomes ≡ false → (cause ≡ causes.WriteFault → ⊥) → (cause ≡ cause_after asked matched) × Appends taken taken' (number_text asked matched)
+  pub breaks : list_any is_write_fault outcomes ≡ false → cause ≡ causes.WriteFault → IsTrue (numbers asked) × (Rose failed failed' × AppendsPart taken taken' (number_text asked matched))
+
+-- A run of `locate`: its databases were tried one after another, each from where the one before left the run, and then it
+-- ended.
+pub record LocateRan (asked : LocateAsked) (known : Known) (s s' : Standing) (outcomes : List Outcome) (cause : Cause) : Type 0 where
+  pub after : Standing
+  pub goes : Goes (Tried asked.statistics (query_of asked) known) (databases_of asked) outcomes s after
+  pub complete : IsComplete (databases_of asked) outcomes
+  pub concludes : Concludes asked outcomes after.matched after.taken s'.taken after.writes_failed s'.writes_failed cause
+  pub given : s'.given ≡ after.given
+  pub asks : s'.asks ≡ after.asks
+  pub reads_failed : s'.reads_failed ≡ after.reads_failed
+  pub gate_failed : s'.gate_failed ≡ after.gate_failed
+
+abbrev pub is_read_fault : Outcome → Bool
+is_read_fault outcomes.ReadFault = true
+is_read_fault outcome = false
+
+abbrev pub is_gate_fault : Outcome → Bool
+is_gate_fault outcomes.GateFault = true
+is_gate_fault outcome = false
+
+-- A run of `locate`, and when its answers come. Where memory ran out no database was tried. Where no call failed, exactly
+-- what the files and the gate's tests say was printed and answered, or exactly the statistics of the files were written. No more outcomes tell of a failed read, or of a failed
+-- gate, than such calls failed, up to the last count that can be told. A failed write is the cause where it is an outcome,
+-- and else only where the number of paths is written.
+pub record LocateRun (asked : LocateAsked) (known : Known) (s s' : Standing) (outcomes : List Outcome) (cause : Cause) : Type 0 where
+  pub no_memory : cause ≡ causes.OutOfMemory → outcomes ≡ []
+  pub ran : (cause ≡ causes.OutOfMemory → ⊥) → LocateRan asked known s s' outcomes cause
+  pub exact : (cause ≡ causes.OutOfMemory → ⊥) → asked.statistics ≡ false → (world : World) → known.files ≡ Some world.files → known.tests ≡ Some world.tests → NoneFailed s s'
+      → Locates asked world s.taken s'.taken outcomes cause
+  pub counted : (cause ≡ causes.OutOfMemory → ⊥) → asked.statistics ≡ true → (files : Files) → known.files ≡ Some files → NoneFailed s s'
+      → CountsAll asked files s.taken s'.taken outcomes cause
+  pub read_faults : min (s.reads_failed + length (filter is_read_fault outcomes)) last_count ≤ s'.reads_failed
+  pub gate_faults : min (s.gate_failed + length (filter is_gate_fault outcomes)) last_count ≤ s'.gate_failed
+  pub write_fault : cause ≡ causes.WriteFault → Rose s.writes_failed s'.writes_failed
+  pub write_failed : list_any is_write_fault outcomes ≡ true → cause ≡ causes.WriteFault
+  pub number_only : cause ≡ causes.WriteFault → list_any is_write_fault outcomes ≡ false → IsTrue (numbers asked)
