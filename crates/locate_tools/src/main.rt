@@ -3,7 +3,11 @@
 
 mod answer;
 mod call;
+#[cfg(test)]
+mod damage_tests;
 mod databases;
+#[cfg(test)]
+mod format_tests;
 mod lines;
 mod located;
 mod messages;

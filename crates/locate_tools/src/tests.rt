@@ -12,7 +12,8 @@ pub const TREE: &[u8] =
     b"\0mlocate\0\0\06\0\0\0\0/\0prune_bind_mounts\00\0\0prunefs\0\0prunenames\0\0prunepaths\0\0\0\0\0\0\0\0\x03\xe8\0\0\0\0\0\0\0\0/\0\x01a\0\x01a.b\0\x02\0\0\0\0\0\0\x03\xe8\0\0\0\0\0\0\0\0/a\0\x01z\0\x02\0\0\0\0\0\0\x03\xe8\0\0\0\0\0\0\0\0/a/z\0\x02\0\0\0\0\0\0\x03\xe8\0\0\0\0\0\0\0\0/a.b\0\x02";
 
 /// A LOCATE02 database of `/usr/src`, `/usr/src/cmd/aardvark.c`, `/usr/src/cmd/armadillo.c` and `/usr/tmp/zoo`.
-const USR: &[u8] = b"\0LOCATE02\0\0/usr/src\0\x08/cmd/aardvark.c\0\x06rmadillo.c\0\xF7tmp/zoo\0";
+pub const USR: &[u8] =
+    b"\0LOCATE02\0\0/usr/src\0\x08/cmd/aardvark.c\0\x06rmadillo.c\0\xF7tmp/zoo\0";
 
 /// The words of a line, which a space stands between.
 pub fn call_of(alloc: Global, line: &str, locate_path: Option<&str>) -> Result<Call, AllocError> {
@@ -81,7 +82,7 @@ pub fn report(
 }
 
 /// The report of a run over these files and this gate.
-fn located(
+pub fn located(
     alloc: Global,
     files: &mut MemFiles,
     gate: &mut MemGate,
@@ -130,7 +131,7 @@ fn put(
 }
 
 /// The first bytes of the tree's database.
-fn front(count: usize) -> &'static [u8] {
+pub fn front(count: usize) -> &'static [u8] {
     TREE.get(..count).unwrap_or(b"")
 }
 

@@ -5,7 +5,7 @@ use loc_outside::{MemFiles, MemGate, MemOutput, MemSink, MemTree, Times};
 use path_order::{Kind, Stamp, is_name, is_normal};
 use std::alloc::{AllocError, Global};
 
-fn put(tree: &mut MemTree, path: &[u8]) -> Result<(), AllocError> {
+pub fn put(tree: &mut MemTree, path: &[u8]) -> Result<(), AllocError> {
     let times = Times {
         modified: Stamp::new(1_000, 0).unwrap_or(Stamp::zero()),
         changed: Stamp::zero(),
@@ -37,7 +37,7 @@ fn small_tree(alloc: Global) -> Result<MemTree, AllocError> {
 }
 
 /// The report of a run over these.
-fn updated_from(
+pub fn updated_from(
     alloc: Global,
     line: &str,
     files: &mut MemFiles,
@@ -55,7 +55,7 @@ fn updated_from(
 }
 
 /// The report of a run over the small tree and this configuration.
-fn updated(
+pub fn updated(
     alloc: Global,
     conf: &str,
     line: &str,
@@ -80,7 +80,7 @@ fn stores(
     Ok(found.as_slice() == expected.as_bytes())
 }
 
-fn stored_bytes(output: &MemOutput) -> &[u8] {
+pub fn stored_bytes(output: &MemOutput) -> &[u8] {
     output.stored("/db").unwrap_or(b"")
 }
 
