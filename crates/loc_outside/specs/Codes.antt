@@ -27,4 +27,4 @@ held_code =
 
 abbrev pub output_state_code : Coded OutputState
 output_state_code =
-    code_by (Held × Failures) (coded× held_code failures_code) (λ s. (s.held, s.failures)) (λ p. record { held = p.0; failures = p.1 }) (λ _. refl)
+    code_by (Held × (ℕ × Failures)) (coded× held_code (coded× coded_ℕ failures_code)) (λ s. (s.held, (s.begins, s.failures))) (λ p. record { held = p.0; begins = p.1.0; failures = p.1.1 }) (λ _. refl)

@@ -57,14 +57,15 @@ pub record SinkState : Type 0 where
 abbrev pub refuses : SinkState → List ℕ → Bool
 refuses s piece = is_due s.failures || nat_lt 0 (length piece) && nat_le s.room (length s.taken)
 
--- what is stored and pending, and the failures
+-- what is stored and pending, how many names were begun, and the failures
 pub record OutputState : Type 0 where
   pub held : Held
+  pub begins : ℕ
   pub failures : Failures
 
 -- no file is stored, no name was begun, and no byte was taken
 abbrev pub empty_output : OutputState
-empty_output = record { held = record { stored = empty; name = None; pending = [] }; failures = no_failures }
+empty_output = record { held = record { stored = empty; name = None; pending = [] }; begins = 0; failures = no_failures }
 
 -- the directories, the names that the open listing has still to give, whether one is open, the two counts, and the failures
 pub record TreeState : Type 0 where

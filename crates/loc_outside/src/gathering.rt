@@ -1,5 +1,6 @@
 //! A sink that gathers what it takes, and passes it on in blocks.
-ghost use Rattle.std.specs.Prelude.{◌≡◌, ◌≤◌, ◌+◌, [], None, Ok, OnOk, OnErr, length};
+ghost use Rattle.std.specs.Prelude.{◌≡◌, ◌≤◌, ◌+◌, [], None, Ok, OnOk, OnErr, length, min};
+ghost use Rattle.std.proofs.Math.Nat.{min-le_right};
 ghost use Rattle.std.specs.Io.KnownBytes.{WriteAppends, append_known};
 ghost use Rattle.arrayvec.specs.ArrayVec.{array_vec_len};
 ghost use Rattle.loc_outside.specs.Causes.{HasCause};
@@ -24,7 +25,7 @@ pub(crate) trait SteadySink: Sink {
 #[derive(Drop)]
 pub(crate) struct Gathering<S> {
     pub(crate) below: S,
-    held: ArrayVec<u8, ROOM>,
+    pub(crate) held: ArrayVec<u8, ROOM>,
 }
 
 impl<S: SteadySink> Gathering<S> {
@@ -108,9 +109,16 @@ impl<S: SteadySink> Sink for Gathering<S> {
 }
 
 impl<S: SteadySink> BufferedSink for Gathering<S> {
+    ghost buffer_size = { 16384 };
+
+    ghost held_back = { λ g. min (length g.held.items) 16384 };
+
+    ghost held_within = { λ g. min-le_right (length g.held.items) 16384 };
+
     fn flush(&mut self) -> Result<(), Failed>
         // Where it is done, nothing is held back: the sink below has taken all.
         ensures all { OnOk result (self.new.held.items ≡ []) }
+        ensures flushed { OnOk result (min (length self.new.held.items) 16384 ≡ 0) }
         ensures taken { append_known (S.taken self.new.below) self.new.held.items ≡ append_known (S.taken self.old.below) self.old.held.items }
         ensures cause { HasCause (S.faults self.old.below) (S.faults self.new.below) result }
         ensures kept { S.kept self.old.below self.new.below }

@@ -1,6 +1,7 @@
 //! The host's standard output.
 ghost use Rattle.std.specs.Prelude.{◌≡◌, None, ⊤, min};
 ghost use Rattle.std.proofs.Common.{refl};
+ghost use Rattle.std.proofs.Math.Nat.{min-le_right};
 ghost use Rattle.loc_outside.specs.Causes.{last_count, stays_below};
 
 use crate::gathering::{Gathering, SteadySink};
@@ -51,24 +52,25 @@ impl SteadySink for Stream {
 /// The host's standard output. It gathers: up to 16,384 bytes are held back, and go out in order where there is no room for
 /// the next piece, and when flushed. Where they can't go out, the call at hand has failed, and what did not go out is held
 /// back still; no byte goes out twice. What is held back when the program ends is lost: flush before that, and before
-/// something else is to show behind it. A contract sees the count of faults.
+/// something else is to show behind it. A contract sees the counts of bytes held back and of faults.
 #[derive(Drop)]
 pub struct HostOut {
     out: Gathering<Stream>,
 }
 
 impl Model for HostOut {
-    ghost use Rattle.std.specs.Prelude.{ℕ};
+    ghost use Rattle.std.specs.Prelude.{length};
+    ghost use Rattle.loc_outside.specs.Host.{BufferCounts};
 
-    ghost Value = { ℕ };
+    ghost Value = { BufferCounts };
 
-    ghost view = { λ h. h.out.below };
+    ghost view = { λ h. record { held_back = length h.out.held.items; faults = h.out.below } };
 }
 
 impl HostOut {
     /// The standard output of this host.
     pub fn new(rt: HostRuntime) -> HostOut
-        ensures { result ≡ 0 }
+        ensures { result ≡ record { held_back = 0; faults = 0 } }
     {
         HostOut {
             out: Gathering::new(Stream { rt, faults: 0 }),
@@ -79,7 +81,7 @@ impl HostOut {
 impl Sink for HostOut {
     ghost taken = { λ h. None };
 
-    ghost faults = { λ h. min h last_count };
+    ghost faults = { λ h. min h.faults last_count };
 
     ghost kept = { λ h k. ⊤ };
 
@@ -87,7 +89,7 @@ impl Sink for HostOut {
 
     ghost keeps_on = { λ h k l first then. tt };
 
-    ghost faults_below = { λ h. stays_below h };
+    ghost faults_below = { λ h. stays_below h.faults };
 
     #[inline(always)]
     fn write(&mut self, piece: &[u8]) -> Result<usize, Failed> {
@@ -96,6 +98,12 @@ impl Sink for HostOut {
 }
 
 impl BufferedSink for HostOut {
+    ghost buffer_size = { 16384 };
+
+    ghost held_back = { λ h. min h.held_back 16384 };
+
+    ghost held_within = { λ h. min-le_right h.held_back 16384 };
+
     fn flush(&mut self) -> Result<(), Failed> {
         self.out.flush()
     }

@@ -1,6 +1,6 @@
 //! The host's files, to be written.
-ghost use Rattle.std.specs.Prelude.{◌≡◌, None, ⊤, min};
-ghost use Rattle.std.proofs.Common.{refl};
+ghost use Rattle.std.specs.Prelude.{◌≡◌, None, min};
+ghost use Rattle.std.proofs.Common.{refl, ◌∙◌};
 ghost use Rattle.loc_outside.specs.Causes.{last_count, stays_below};
 
 use crate::host::fault;
@@ -55,7 +55,7 @@ fn discard(rt: HostRuntime, pending: Pending, kept: &str) {
     }
 }
 
-/// The host's files, to be written. A contract sees the count of faults.
+/// The host's files, to be written. A contract sees the counts of names begun and of faults.
 ///
 /// The bytes of a name go through a buffer to a file of that name with `.new` added. A commit writes the buffer out and
 /// renames the file, so the file of that name is the old one or the new one at any time. What was begun and not committed
@@ -64,6 +64,7 @@ fn discard(rt: HostRuntime, pending: Pending, kept: &str) {
 pub struct HostOutput {
     rt: HostRuntime,
     pending: Option<Pending>,
+    begins: u64,
     faults: u64,
 }
 
@@ -72,6 +73,7 @@ impl Drop for HostOutput {
         let HostOutput {
             rt,
             pending,
+            begins: _,
             faults: _,
         } = self;
         if let Some(pending) = pending {
@@ -81,21 +83,22 @@ impl Drop for HostOutput {
 }
 
 impl Model for HostOutput {
-    ghost use Rattle.std.specs.Prelude.{ℕ};
+    ghost use Rattle.loc_outside.specs.Host.{OutputCounts};
 
-    ghost Value = { ℕ };
+    ghost Value = { OutputCounts };
 
-    ghost view = { λ h. h.faults };
+    ghost view = { λ h. record { begins = h.begins; faults = h.faults } };
 }
 
 impl HostOutput {
     /// The files of this host, of which none was begun.
     pub fn new(rt: HostRuntime) -> HostOutput
-        ensures { result ≡ 0 }
+        ensures { result ≡ record { begins = 0; faults = 0 } }
     {
         HostOutput {
             rt,
             pending: None,
+            begins: 0,
             faults: 0,
         }
     }
@@ -104,15 +107,15 @@ impl HostOutput {
 impl Sink for HostOutput {
     ghost taken = { λ h. None };
 
-    ghost faults = { λ h. min h last_count };
+    ghost faults = { λ h. min h.faults last_count };
 
-    ghost kept = { λ h k. ⊤ };
+    ghost kept = { λ h k. min k.begins last_count ≡ min h.begins last_count };
 
-    ghost keeps_itself = { λ h. tt };
+    ghost keeps_itself = { λ h. refl };
 
-    ghost keeps_on = { λ h k l first then. tt };
+    ghost keeps_on = { λ h k l first then. then ∙ first };
 
-    ghost faults_below = { λ h. stays_below h };
+    ghost faults_below = { λ h. stays_below h.faults };
 
     fn write(&mut self, piece: &[u8]) -> Result<usize, Failed> {
         let answer = match &mut self.pending {
@@ -129,6 +132,10 @@ impl Sink for HostOutput {
 impl Output for HostOutput {
     ghost held = { λ h. None };
 
+    ghost begins = { λ h. min h.begins last_count };
+
+    ghost keeps_begins = { λ h k kept. kept };
+
     ghost keeps_begun = { λ h k kept. refl };
 
     ghost keeps_held = { λ h k bytes kept grows. refl };
@@ -141,6 +148,7 @@ impl Output for HostOutput {
             discard(self.rt, old, pending.aside.as_str());
         }
         self.pending = Some(pending);
+        self.begins = self.begins.saturating_add(1);
         Ok(())
     }
 

@@ -1,9 +1,9 @@
 //! An output in memory.
-ghost use Rattle.std.specs.Prelude.{◌≡◌, ◌∷◌, ◌++◌, [], Some, OnOk, OnErr, IfOk, IfSome, IsErr, IsSome, IsTrue, length, option_copied};
+ghost use Rattle.std.specs.Prelude.{◌≡◌, ◌∷◌, ◌++◌, [], Some, OnOk, OnErr, IfOk, IfSome, IsErr, IsSome, IsTrue, length, min, option_copied};
 ghost use Rattle.std.specs.FinMap as map;
 ghost use Rattle.std.specs.Io.KnownBytes.{WriteAppends};
 ghost use Rattle.std.proofs.Common.{refl, ◌∙◌};
-ghost use Rattle.loc_outside.specs.Causes.{HasCause, stays_below};
+ghost use Rattle.loc_outside.specs.Causes.{HasCause, last_count, raised, stays_below};
 ghost use Rattle.loc_outside.specs.Held.{begun, committed};
 ghost use Rattle.loc_outside.specs.Memory.{empty_output, is_due, called, faulted, fault_count};
 ghost use Rattle.loc_outside.specs.Outside.{TakesPart};
@@ -23,6 +23,7 @@ pub struct MemOutput {
     files: Vec<StoredFile>,
     name: Option<String>,
     pending: Vec<u8>,
+    begins: u64,
     failing: Failing,
 }
 
@@ -37,7 +38,7 @@ impl Model for MemOutput {
 
     ghost coded = { output_state_code };
 
-    ghost view = { λ m. record { held = record { stored = files_of m.files.items; name = option_map string_bytes m.name; pending = m.pending.items }; failures = m.failing } };
+    ghost view = { λ m. record { held = record { stored = files_of m.files.items; name = option_map string_bytes m.name; pending = m.pending.items }; begins = m.begins; failures = m.failing } };
 }
 
 impl MemOutput {
@@ -50,6 +51,7 @@ impl MemOutput {
             files: Vec::new(alloc),
             name: None,
             pending: Vec::new(alloc),
+            begins: 0,
             failing: Failing::new(alloc),
         }
     }
@@ -93,11 +95,11 @@ impl Sink for MemOutput {
 
     ghost faults = { λ m. fault_count m.failures };
 
-    ghost kept = { λ m n. (n.held.stored ≡ m.held.stored) × (n.held.name ≡ m.held.name) };
+    ghost kept = { λ m n. (n.held.stored ≡ m.held.stored) × (n.held.name ≡ m.held.name) × (min n.begins last_count ≡ min m.begins last_count) };
 
-    ghost keeps_itself = { λ m. (refl, refl) };
+    ghost keeps_itself = { λ m. (refl, refl, refl) };
 
-    ghost keeps_on = { λ m n o first then. (then.0 ∙ first.0, then.1 ∙ first.1) };
+    ghost keeps_on = { λ m n o first then. (then.0 ∙ first.0, then.1 ∙ first.1, then.2 ∙ first.2) };
 
     ghost faults_below = { λ m. stays_below m.failures.faults };
 
@@ -105,7 +107,7 @@ impl Sink for MemOutput {
         ensures bound { TakesPart result piece.now }
         ensures bytes { WriteAppends (Some self.old.held.pending) (Some self.new.held.pending) result piece.now }
         ensures cause { HasCause (fault_count self.old.failures) (fault_count self.new.failures) result }
-        ensures kept { (self.new.held.stored ≡ self.old.held.stored) × (self.new.held.name ≡ self.old.held.name) }
+        ensures kept { (self.new.held.stored ≡ self.old.held.stored) × (self.new.held.name ≡ self.old.held.name) × (min self.new.begins last_count ≡ min self.old.begins last_count) }
         // It fails where that was asked for, else only for want of memory, and takes the whole piece.
         ensures due { IsTrue (is_due self.old.failures) → IsErr result }
         ensures most { IfOk result (λ n. n ≡ length piece.now) }
@@ -123,12 +125,16 @@ impl Sink for MemOutput {
 impl Output for MemOutput {
     ghost held = { λ m. Some m.held };
 
+    ghost begins = { λ m. min m.begins last_count };
+
+    ghost keeps_begins = { λ m n kept. kept.2 };
+
     ghost keeps_begun = { λ m n kept. keeps_name m.held n.held kept.0 kept.1 };
 
     ghost keeps_held = { λ m n bytes kept grows. keeps_stored m.held n.held bytes kept.0 kept.1 grows };
 
     fn begin(&mut self, name: &str) -> Result<(), Failed>
-        ensures ok { OnOk result (self.new ≡ record { held = begun name.now self.old.held; failures = called self.old.failures }) }
+        ensures ok { OnOk result (self.new ≡ record { held = begun name.now self.old.held; begins = raised self.old.begins 1; failures = called self.old.failures }) }
         // It fails where that was asked for, else only for want of memory.
         ensures due { IsTrue (is_due self.old.failures) → IsErr result }
         ensures err { OnErr result (self.new ≡ record self.old { failures = faulted (called self.old.failures) }) }
@@ -139,6 +145,7 @@ impl Output for MemOutput {
             Ok(name) => {
                 self.name = Some(name);
                 self.pending.clear();
+                self.begins = self.begins.saturating_add(1);
                 Ok(())
             }
             Err(_) => Err(self.failing.fault()),
@@ -147,7 +154,7 @@ impl Output for MemOutput {
 
     fn commit(&mut self) -> Result<(), Failed>
         requires { IsSome self.old.held.name }
-        ensures ok { OnOk result (self.new ≡ record { held = committed self.old.held; failures = called self.old.failures }) }
+        ensures ok { OnOk result (self.new ≡ record self.old { held = committed self.old.held; failures = called self.old.failures }) }
         // It fails where that was asked for, else only for want of memory.
         ensures due { IsTrue (is_due self.old.failures) → IsErr result }
         ensures err { OnErr result (self.new ≡ record self.old { failures = faulted (called self.old.failures) }) }

@@ -5,7 +5,7 @@ ghost use Rattle.loc_outside.specs.Causes.{HasCause, stays_below};
 ghost use Rattle.loc_outside.specs.Memory.{no_failures, called, faulted, fault_count, refuses};
 ghost use Rattle.loc_outside.specs.Outside.{TakesPart};
 ghost use Rattle.std.proofs.lemmas.Option.{none-some};
-ghost use Rattle.std.proofs.Common.{refl, sym, ◌∙◌};
+ghost use Rattle.std.proofs.Common.{refl, sym, zero-le, ◌∙◌};
 
 use crate::failing::Failing;
 use crate::gathering::SteadySink;
@@ -107,6 +107,12 @@ impl Sink for MemSink {
 }
 
 impl BufferedSink for MemSink {
+    ghost buffer_size = { 0 };
+
+    ghost held_back = { λ s. 0 };
+
+    ghost held_within = { λ s. zero-le };
+
     /// Nothing is held back, so this does nothing, and is no call that can be let fail.
     fn flush(&mut self) -> Result<(), Failed>
         ensures done { IsOk result }

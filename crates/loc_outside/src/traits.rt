@@ -1,10 +1,10 @@
 //! The traits.
-ghost use Rattle.std.specs.Prelude.{◌≡◌, ◌<◌, ◌^◌, List, ℕ, length, IsSome, IfSome, OnOk, OnErr};
+ghost use Rattle.std.specs.Prelude.{◌≡◌, ◌<◌, ◌≤◌, ◌^◌, List, ℕ, length, IsSome, IfSome, OnOk, OnErr};
 ghost use Rattle.std.specs.declared.option.Option.{Option};
 ghost use Rattle.std.specs.Io.{ReadsAtMost};
 ghost use Rattle.std.specs.Io.KnownBytes.{Appends, ReadConsumes, WriteAppends};
 ghost use Rattle.std.specs.Option.{option_map};
-ghost use Rattle.loc_outside.specs.Causes.{HasCause};
+ghost use Rattle.loc_outside.specs.Causes.{HasCause, raised};
 ghost use Rattle.loc_outside.specs.Files.{Files};
 ghost use Rattle.loc_outside.specs.Held.{Held, begun, grown, committed, emptied};
 ghost use Rattle.loc_outside.specs.Outside.{GivesCount, TakesPart, OpensAs};
@@ -110,11 +110,21 @@ pub trait Sink {
 
 /// A sink that may hold back what it has taken, and passes it on when asked.
 pub trait BufferedSink: Sink {
+    /// The size of its buffer in bytes, 0 where it has none.
+    ghost buffer_size: { ℕ };
+
+    /// How many of the bytes that it has taken it holds back. Every form tells this.
+    ghost held_back: { Self → ℕ };
+
     /// Passes on all that was taken. After `Failed`, how much of it went on is not said.
     fn flush(&mut self) -> Result<(), Failed>
+        ensures flushed { OnOk result (held_back self.new ≡ 0) }
         ensures taken { Self.taken self.new ≡ Self.taken self.old }
         ensures cause { HasCause (Self.faults self.old) (Self.faults self.new) result }
         ensures kept { Self.kept self.old self.new };
+
+    /// No more is held back than the buffer has room for.
+    ghost held_within: { (s : Self) → held_back s ≤ buffer_size };
 }
 
 /// What takes files, one after another: a name is begun, the bytes that are taken then are pending, and a commit stores them.
@@ -123,6 +133,9 @@ pub trait Output: Sink {
     /// was begun, where it tells them.
     ghost held: { Self → Option Held };
 
+    /// How many names were begun, up to 2^64 - 1. Every output tells this.
+    ghost begins: { Self → ℕ };
+
     /// Begins a file of this name, in place of the one that was begun. No byte is pending then.
     /// What the sink tells as taken is then not said. After `Failed` nothing has changed but the count of faults.
     fn begin(&mut self, name: &str) -> Result<(), Failed>
@@ -130,6 +143,7 @@ pub trait Output: Sink {
         ensures err { OnErr result (held self.new ≡ held self.old) }
         ensures err_taken { OnErr result (Self.taken self.new ≡ Self.taken self.old) }
         ensures err_kept { OnErr result (Self.kept self.old self.new) }
+        ensures begins { OnOk result (begins self.new ≡ raised (begins self.old) 1) }
         ensures cause { HasCause (Self.faults self.old) (Self.faults self.new) result };
 
     /// Stores the pending bytes under the name that was begun, in place of those that it had, and leaves all other files.
@@ -139,7 +153,11 @@ pub trait Output: Sink {
         ensures ok { OnOk result (held self.new ≡ option_map committed (held self.old)) }
         ensures err { OnErr result (held self.new ≡ held self.old) }
         ensures taken { Self.taken self.new ≡ Self.taken self.old }
+        ensures begins { begins self.new ≡ begins self.old }
         ensures cause { HasCause (Self.faults self.old) (Self.faults self.new) result };
+
+    /// To take bytes begins no name.
+    ghost keeps_begins: { (s t : Self) → Self.kept s t → begins t ≡ begins s };
 
     /// To take bytes changes no stored file and no name.
     ghost keeps_begun: { (s t : Self) → Self.kept s t → option_map emptied (held t) ≡ option_map emptied (held s) };
