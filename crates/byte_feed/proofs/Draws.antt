@@ -1,9 +1,9 @@
 -- What is drawn from a source, call by call.
 use Rattle.std.proofs.Common.{◌≡◌, ℕ, ◌+◌, ◌-◌, ◌≤◌, Bool, true, false, List, length, drop, Option, Some, None, refl, sym, ap, ◌∙◌, length-append, length-drop, arith}
-use Rattle.std.specs.Io.KnownBytes.{Consumes}
+use Rattle.std.specs.Io.KnownBytes.{Consumes, IsAtEnd}
 use Rattle.std.proofs.lemmas.List.{drop-drop, drop_at}
 use Rattle.loc_outside.specs.Causes.{raised}
-use Rattle.byte_feed.specs.Feed.{FeedState, reach, LeftAfter, Draws, Takes}
+use Rattle.byte_feed.specs.Feed.{FeedState, reach, LeftAfter, NoneLeft, Draws, Takes}
 
 pub raised_none : (g : ℕ) → raised g 0 ≡ g
 raised_none g = omega arith
@@ -27,33 +27,55 @@ left_taken None l' got e = tt
 left_taken (Some a) None got e = absurd e
 left_taken (Some a) (Some b) got e = (omega (arith, ap length e, length-append got b), sym (ap (drop (length got)) e ∙ drop_at got b (length got) refl))
 
--- nothing was drawn
-pub draws_still : (f f' : FeedState) (g g' : ℕ) (l l' : Option (List ℕ)) → reach f' ≡ reach f → (f.ended ≡ true → f'.ended ≡ true) → g' ≡ g → l' ≡ l → Draws f f' g g' l l'
-draws_still f f' g g' l l' same shut given left =
-    let gap : reach f' - reach f ≡ 0 = omega (arith, same) in
-    record {
-      forth = omega (arith, same);
-      shut = λ e. (shut e, same);
-      count = given ∙ sym (ap (raised g) gap ∙ raised_none g);
-      rest = rw (gap, left) (left_same l);
-    }
-
-pub draws_none : (f : FeedState) (g : ℕ) (l : Option (List ℕ)) → Draws f f g g l l
-draws_none f g l = draws_still f f g g l l refl (λ e. e) refl refl
-
 open_shut : (b : Bool) → b ≡ false → b ≡ true → ⊥
 open_shut b e h = absurd cc
 
+pub at_end : (l l' : Option (List ℕ)) → IsAtEnd l' → NoneLeft l l'
+at_end None l' end = tt
+at_end (Some a) l' end = end
+
+-- nothing was drawn
+pub draws_still : (f f' : FeedState) (g g' : ℕ) (l l' : Option (List ℕ)) → reach f' ≡ reach f → f'.ended ≡ f.ended → g' ≡ g → l' ≡ l → Draws f f' g g' l l'
+draws_still f f' g g' l l' same still given left =
+    let gap : reach f' - reach f ≡ 0 = omega (arith, same) in
+    record {
+      forth = omega (arith, same);
+      shut = λ e. (still ∙ e, same);
+      count = given ∙ sym (ap (raised g) gap ∙ raised_none g);
+      rest = rw (gap, left) (left_same l);
+      ends = λ going ended. absurd (open_shut f.ended going (sym still ∙ ended));
+    }
+
+pub draws_none : (f : FeedState) (g : ℕ) (l : Option (List ℕ)) → Draws f f g g l l
+draws_none f g l = draws_still f f g g l l refl refl refl refl
+
 -- these bytes were drawn from a source that had not ended
-pub draws_got : (f f' : FeedState) (g g' : ℕ) (l l' : Option (List ℕ)) (got : List ℕ) → f.ended ≡ false → reach f' ≡ reach f + length got → g' ≡ raised g (length got) → Consumes l l' got → Draws f f' g g' l l'
-draws_got f f' g g' l l' got going more given taken =
+pub draws_got : (f f' : FeedState) (g g' : ℕ) (l l' : Option (List ℕ)) (got : List ℕ) → f.ended ≡ false → reach f' ≡ reach f + length got → g' ≡ raised g (length got) → Consumes l l' got → (f'.ended ≡ true → IsAtEnd l') → Draws f f' g g' l l'
+draws_got f f' g g' l l' got going more given taken none =
     let gap : reach f' - reach f ≡ length got = omega (arith, more) in
     record {
       forth = omega (arith, more);
       shut = λ e. absurd (open_shut f.ended going e);
       count = given ∙ ap (raised g) (sym gap);
       rest = rw gap (left_taken l l' got taken);
+      ends = λ _ ended. at_end l l' (none ended);
     }
+
+-- where nothing is left, nothing more was taken
+none_left_then : (l l' l'' : Option (List ℕ)) (n m : ℕ) → m ≡ 0 → LeftAfter n l l' → LeftAfter m l' l'' → NoneLeft l l' → NoneLeft l l''
+none_left_then None l' l'' n m none p q end = tt
+none_left_then (Some a) None l'' n m none p q end = absurd p
+none_left_then (Some a) (Some b) None n m none p q end = absurd q
+none_left_then (Some a) (Some b) (Some c) n m none p q end = q.1 ∙ ap (λ (k : ℕ). drop k b) none ∙ end
+
+later_left : (l l' l'' : Option (List ℕ)) (n : ℕ) → LeftAfter n l l' → NoneLeft l' l'' → NoneLeft l l''
+later_left None l' l'' n p end = tt
+later_left (Some a) None l'' n p end = absurd p
+later_left (Some a) (Some b) l'' n p end = end
+
+ends_then : (f f' f'' : FeedState) (g g' g'' : ℕ) (l l' l'' : Option (List ℕ)) (b : Bool) → f'.ended ≡ b → Draws f f' g g' l l' → Draws f' f'' g' g'' l' l'' → f.ended ≡ false → f''.ended ≡ true → NoneLeft l l''
+ends_then f f' f'' g g' g'' l l' l'' true is p q going ended = none_left_then l l' l'' (reach f' - reach f) (reach f'' - reach f') (omega (arith, (q.shut is).1)) p.rest q.rest (p.ends going is)
+ends_then f f' f'' g g' g'' l l' l'' false is p q going ended = later_left l l' l'' (reach f' - reach f) p.rest (q.ends is ended)
 
 pub draws_then : (f f' f'' : FeedState) (g g' g'' : ℕ) (l l' l'' : Option (List ℕ)) → Draws f f' g g' l l' → Draws f' f'' g' g'' l' l'' → Draws f f'' g g'' l l''
 draws_then f f' f'' g g' g'' l l' l'' p q =
@@ -63,6 +85,7 @@ draws_then f f' f'' g g' g'' l l' l'' p q =
       shut = λ e. let r = p.shut e in let s = q.shut r.0 in (s.0, s.1 ∙ r.1);
       count = q.count ∙ ap (λ (n : ℕ). raised n (reach f'' - reach f')) p.count ∙ raised_more g (reach f' - reach f) (reach f'' - reach f') ∙ ap (raised g) (sym gap);
       rest = rw gap (left_then (reach f' - reach f) (reach f'' - reach f') l l' l'' p.rest q.rest);
+      ends = ends_then f f' f'' g g' g'' l l' l'' f'.ended refl p q;
     }
 
 -- ---- all bytes of a source

@@ -1,5 +1,6 @@
 -- The bytes that a feed still has to give, and what a call takes of them.
 use Rattle.std.specs.Prelude.{◌≡◌, ℕ, ◌+◌, ◌-◌, ◌≤◌, Bool, true, false, List, [], ◌++◌, length, take, drop, Option, Some, None, nat_le, if◌then◌else◌, ⊤}
+use Rattle.std.specs.Io.KnownBytes.{IsAtEnd}
 use Rattle.loc_outside.specs.Causes.{raised}
 use Rattle.byte_feed.specs.Front.{limit, Window}
 
@@ -50,13 +51,19 @@ LeftAfter n None left' = ⊤
 LeftAfter n (Some l) None = ⊥
 LeftAfter n (Some l) (Some l') = (n ≤ length l) × (l' ≡ drop n l)
 
+-- no byte is left now, where those left are told
+abbrev pub NoneLeft : Option (List ℕ) → Option (List ℕ) → Type 0
+NoneLeft None left' = ⊤
+NoneLeft (Some l) left' = IsAtEnd left'
+
 -- The source gave just the bytes that the feed came to hold, and its count of bytes given rose by their number. From a
--- source that has ended for the feed nothing is drawn.
+-- source that has ended for the feed nothing is drawn, and it ends for the feed only where no byte is left.
 pub record Draws (f f' : FeedState) (given given' : ℕ) (left left' : Option (List ℕ)) : Type 0 where
   pub forth : reach f ≤ reach f'
   pub shut : f.ended ≡ true → (f'.ended ≡ true) × (reach f' ≡ reach f)
   pub count : given' ≡ raised given (reach f' - reach f)
   pub rest : LeftAfter (reach f' - reach f) left left'
+  pub ends : f.ended ≡ false → f'.ended ≡ true → NoneLeft left left'
 
 -- So many bytes were taken off the front of those left, and the count of bytes given rose by their number.
 pub record Takes (most given given' : ℕ) (left left' : Option (List ℕ)) : Type 0 where

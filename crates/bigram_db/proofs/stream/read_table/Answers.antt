@@ -26,4 +26,4 @@ returns-clause-table g c =
 pub returns-clause-drawn : goal.returns-clause-drawn
 returns-clause-drawn g c =
     draws_then _ c.look.new.self _ _ _ _ _ _ _ c.in-Ok.ensures.drawn
-    (draws_still c.look.new.self c.pass.new.self _ _ _ _ (omega (arith, c.pass.ensures.offset, ap length c.pass.ensures.held, length-drop c.in-Ok.count c.look.new.self.held, c.in-Ok.ensures.held)) (λ e. c.pass.ensures.ended ∙ e) refl refl)
+    (draws_still c.look.new.self c.pass.new.self _ _ _ _ (omega (arith, c.pass.ensures.offset, ap length c.pass.ensures.held, length-drop c.in-Ok.count c.look.new.self.held, c.in-Ok.ensures.held)) c.pass.ensures.ended refl refl)

@@ -34,7 +34,7 @@ pieces-preserved g c =
       offset = omega (arith, c.pieces.invariant.offset, c.in-Ok.ensures.grows, c.pass.ensures.offset);
       held = c.pass.ensures.most;
       drawn = draws_then _ _ _ _ _ _ _ _ _ c.pieces.invariant.drawn (draws_then _ _ _ _ _ _ _ _ _ c.in-Ok.ensures.drawn
-          (draws_still _ _ _ _ _ _ (omega (arith, c.pass.ensures.offset, ap length parts, length-append piece c.pass.new.self.held, len)) (λ e. c.pass.ensures.ended ∙ e) refl refl));
+          (draws_still _ _ _ _ _ _ (omega (arith, c.pass.ensures.offset, ap length parts, length-append piece c.pass.new.self.held, len)) c.pass.ensures.ended refl refl));
       reach = omega (arith, c.in-Ok.ensures.reach, c.pass.ensures.offset, ap length parts, length-append piece c.pass.new.self.held, len);
       faults = omega (arith, c.pieces.invariant.faults, c.in-Ok.ensures.later);
       kept = g.met.S.Source.keeps_on _ _ _ c.pieces.invariant.kept c.in-Ok.ensures.kept;
