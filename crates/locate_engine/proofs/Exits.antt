@@ -11,7 +11,7 @@ use Rattle.byte_feed.specs.Feed.{FeedState, window, so_far}
 use Rattle.byte_feed.specs.Paths.{Ending, PathAt, ToCome, Moved, MovedKnown, EndsKnown, after_paths, no_paths}
 use Rattle.byte_feed.proofs.Draws.{raised_more}
 use Rattle.locate_engine.specs.Passing.{Rule, rule_of, tests_asked, line_of, passing, lines, due, OneDirectory}
-use Rattle.locate_engine.specs.Searched.{Stand, gone_through, outcome_of, is_read_fault, steps_over, ComesToEnd, StopsAs, Searches, SearchesKnown, EndsWithin, EndsWithinKnown, is_by_end, seen_of}
+use Rattle.locate_engine.specs.Searched.{Stand, gone_through, outcome_of, is_read_fault, steps_over, ComesToEnd, StopsAs, Searches, SearchesTo, SearchesKnown, end_after, EndsWithin, EndsWithinKnown, is_by_end, seen_of}
 use Rattle.locate_engine.specs.Asked.{Tells, Remembers, calls_due, is_shown, Through, Unanswered, Unwritten, Takes}
 use Rattle.locate_engine.specs.declared.asking.Block.{Block}
 use Rattle.locate_engine.specs.declared.asking.Step.{Step}
@@ -19,6 +19,10 @@ use Rattle.locate_engine.specs.declared.query.Query.{Query}
 use Rattle.locate_engine.specs.declared.outcome.Outcome.{Outcome}
 use Rattle.locate_engine.specs.declared.outcome.Outcome.TheVariants as outcomes
 use Rattle.locate_engine.proofs.Gone.{Went, Holds, went_none, went_yes, went_no, holds_none, holds_yes, holds_no, remembers_next, due_yes, steps_one}
+
+end_more : (k : ℕ) (given : List PathAt) (p : PathAt) → end_after k (given ++ p ∷ []) ≡ p.place
+end_more k [] p = refl
+end_more k (q ∷ given) p = end_more q.place given p
 
 pub off_on : false ≡ true → ⊥
 off_on e = absurd cc
@@ -74,29 +78,36 @@ module _ (rule : Rule) (bound : List ℕ → ℕ) (t t' : Window → ToCome) (f 
     -- the count came to the limit
     limit_at : (a b : List ℕ) (block' : Block) (new' : Stand) → Moved t t' (after_paths (given ++ p ∷ [])) f a f' b → (rule.gated ≡ true → OneDirectory (t (window f a)).paths)
         → Went rule bound old new s s' given × Holds rule (t (window f a)).paths given block → (Remembers rule.gated rule.tests block p → Through rule block block' p new new' × (is_shown rule p ≡ true))
-        → rule.limit ≡ Some new'.matched → Searches rule bound (t (window f a)) old new' s s'' outcomes.LimitReached
-    limit_at a b block' new' moved one before through limit =
+        → rule.limit ≡ Some new'.matched → (far : ℕ) → far ≤ p.place + 20480 → SearchesTo rule bound (t (window f a)) old new' s s'' outcomes.LimitReached far
+    limit_at a b block' new' moved one before through limit far near =
         let later : List PathAt = (t' (window f' b)).paths in
         let done = through (remembers_next rule (t (window f a)).paths given block p before.1 later (paths_are a b moved)) in
         let went : Went rule bound old new' s s'' (given ++ p ∷ []) = went_yes rule bound old new s s' s'' given p before.0 cost block block' new' want before.1.last done.0 in
         let zero : due rule (given ++ p ∷ []) ≡ due rule (given ++ p ∷ []) + 0 = omega arith in
+        let reached : far ≤ end_after 0 (given ++ p ∷ []) + 20480 = omega (arith, near, end_more 0 given p) in
         record {
-          at = gone_through (given ++ p ∷ []);
-          behind = later;
-          paths = paths_are a b moved ∙ ap (λ (ps : List PathAt). ps ++ later) (sym (append-nil (given ++ p ∷ [])));
-          prints = subst (Appends old.taken new'.taken) (sym (append-nil (lines rule (passing rule (given ++ p ∷ []))))) went.prints;
-          counts = went.counts;
-          asks = went.asks ∙ ap (raised old.asks) zero;
-          within = subst (λ (ps : List PathAt). s'' ≤ s + steps_over bound ps) (sym (append-nil (given ++ p ∷ []))) went.within;
-          stops = record { before = given; last = p; gone = refl; passed = ap (λ (b : Bool). b && is_shown rule p) want ∙ done.1; limit = limit };
+          did = record {
+            at = gone_through (given ++ p ∷ []);
+            behind = later;
+            paths = paths_are a b moved ∙ ap (λ (ps : List PathAt). ps ++ later) (sym (append-nil (given ++ p ∷ [])));
+            prints = subst (Appends old.taken new'.taken) (sym (append-nil (lines rule (passing rule (given ++ p ∷ []))))) went.prints;
+            counts = went.counts;
+            asks = went.asks ∙ ap (raised old.asks) zero;
+            within = subst (λ (ps : List PathAt). s'' ≤ s + steps_over bound ps) (sym (append-nil (given ++ p ∷ []))) went.within;
+            stops = record { before = given; last = p; gone = refl; passed = ap (λ (b : Bool). b && is_shown rule p) want ∙ done.1; limit = limit };
+          };
+          near = λ _. reached;
         }
 
     pub searches_limit : (l l' : Option (List ℕ)) (block' : Block) (new' : Stand) → MovedKnown t t' (after_paths (given ++ p ∷ [])) f l f' l' → (rule.gated ≡ true → IfSome l (λ a. OneDirectory (t (window f a)).paths))
         → SoFar rule bound t f l given block old new s s' → (Remembers rule.gated rule.tests block p → Through rule block block' p new new' × (is_shown rule p ≡ true))
-        → rule.limit ≡ Some new'.matched → SearchesKnown rule bound t f l l' old new' s s'' outcomes.LimitReached
-    searches_limit None l' block' new' moved one before through limit = tt
-    searches_limit (Some a) None block' new' moved one before through limit = absurd moved
-    searches_limit (Some a) (Some b) block' new' moved one before through limit = (λ lack. absurd (off_on lack), limit_at a b block' new' moved one before through limit)
+        → rule.limit ≡ Some new'.matched → (far : ℕ) → far ≤ p.place + 20480 → SearchesKnown rule bound t f l l' old new' s s'' outcomes.LimitReached far
+    searches_limit None l' block' new' moved one before through limit far near = tt
+    searches_limit (Some a) None block' new' moved one before through limit far near = absurd moved
+    searches_limit (Some a) (Some b) block' new' moved one before through limit far near = (
+      λ lack. absurd (off_on lack),
+      limit_at a b block' new' moved one before through limit far near,
+    )
 
     -- the gate failed
     gate_at : (a b : List ℕ) (new' : Stand) → Moved t t' (after_paths (given ++ p ∷ [])) f a f' b
@@ -127,10 +138,10 @@ module _ (rule : Rule) (bound : List ℕ → ℕ) (t t' : Window → ToCome) (f 
         }
 
     pub searches_gate : (l l' : Option (List ℕ)) (new' : Stand) → MovedKnown t t' (after_paths (given ++ p ∷ [])) f l f' l'
-        → SoFar rule bound t f l given block old new s s' → (Remembers rule.gated rule.tests block p → Unanswered rule block p new new') → SearchesKnown rule bound t f l l' old new' s s'' outcomes.GateFault
-    searches_gate None l' new' moved before failed = tt
-    searches_gate (Some a) None new' moved before failed = absurd moved
-    searches_gate (Some a) (Some b) new' moved before failed = (λ lack. absurd (off_on lack), gate_at a b new' moved before failed)
+        → SoFar rule bound t f l given block old new s s' → (Remembers rule.gated rule.tests block p → Unanswered rule block p new new') → (far : ℕ) → SearchesKnown rule bound t f l l' old new' s s'' outcomes.GateFault far
+    searches_gate None l' new' moved before failed far = tt
+    searches_gate (Some a) None new' moved before failed far = absurd moved
+    searches_gate (Some a) (Some b) new' moved before failed far = (λ lack. absurd (off_on lack), record { did = gate_at a b new' moved before failed; near = λ e. absurd cc })
 
     -- a write failed
     write_at : (a b : List ℕ) (new' : Stand) → Moved t t' (after_paths (given ++ p ∷ [])) f a f' b
@@ -161,10 +172,10 @@ module _ (rule : Rule) (bound : List ℕ → ℕ) (t t' : Window → ToCome) (f 
         }
 
     pub searches_write : (l l' : Option (List ℕ)) (new' : Stand) → MovedKnown t t' (after_paths (given ++ p ∷ [])) f l f' l'
-        → SoFar rule bound t f l given block old new s s' → (Remembers rule.gated rule.tests block p → Unwritten rule block p new new') → SearchesKnown rule bound t f l l' old new' s s'' outcomes.WriteFault
-    searches_write None l' new' moved before failed = tt
-    searches_write (Some a) None new' moved before failed = absurd moved
-    searches_write (Some a) (Some b) new' moved before failed = (λ lack. absurd (off_on lack), write_at a b new' moved before failed)
+        → SoFar rule bound t f l given block old new s s' → (Remembers rule.gated rule.tests block p → Unwritten rule block p new new') → (far : ℕ) → SearchesKnown rule bound t f l l' old new' s s'' outcomes.WriteFault far
+    searches_write None l' new' moved before failed far = tt
+    searches_write (Some a) None new' moved before failed far = absurd moved
+    searches_write (Some a) (Some b) new' moved before failed far = (λ lack. absurd (off_on lack), record { did = write_at a b new' moved before failed; near = λ e. absurd cc })
 
 -- ---- the end of the paths
 
@@ -199,17 +210,17 @@ module _ (rule : Rule) (bound : List ℕ → ℕ) (old new : Stand) (s s' : ℕ)
   -- the paths ended
   pub searches_end : (t t' : Window → ToCome) (f f' : FeedState) (given : List PathAt) (block : Block) (l l' l'' : Option (List ℕ)) (place heads : ℕ) (e : Ending)
       → MovedKnown t t' (after_paths given) f l f' l' → EndsKnown t' (no_paths place heads) f' l' l'' e → SoFar rule bound t f l given block old new s s'
-      → SearchesKnown rule bound t f l l'' old new s s' (outcome_of e)
-  searches_end t t' f f' given block None l' l'' place heads e moved ends went = tt
-  searches_end t t' f f' given block (Some a) None l'' place heads e moved ends went = absurd moved
-  searches_end t t' f f' given block (Some a) (Some b) None place heads e moved ends went = absurd ends
-  searches_end t t' f f' given block (Some a) (Some b) (Some c) place heads (Ok x) moved ends went = (λ lack. absurd (off_on lack), by_ending t t' f f' given a b (length c) place heads moved went.0 (Ok x) ends refl (λ z. z))
-  searches_end t t' f f' given block (Some a) (Some b) (Some c) place heads (Err faults.NotADatabase) moved ends went = (λ lack. absurd (off_on lack), by_ending t t' f f' given a b (length c) place heads moved went.0 (Err faults.NotADatabase) ends refl (λ z. z))
-  searches_end t t' f f' given block (Some a) (Some b) (Some c) place heads (Err (faults.Damage d)) moved ends went = (λ lack. absurd (off_on lack), by_ending t t' f f' given a b (length c) place heads moved went.0 (Err (faults.Damage d)) ends refl (λ z. z))
-  searches_end t t' f f' given block (Some a) (Some b) (Some c) place heads (Err faults.TooLarge) moved ends went = (λ lack. absurd (off_on lack), by_ending t t' f f' given a b (length c) place heads moved went.0 (Err faults.TooLarge) ends refl (λ z. z))
-  searches_end t t' f f' given block (Some a) (Some b) (Some c) place heads (Err faults.ReadFault) moved ends went =
+      → (far : ℕ) → SearchesKnown rule bound t f l l'' old new s s' (outcome_of e) far
+  searches_end t t' f f' given block None l' l'' place heads e moved ends went far = tt
+  searches_end t t' f f' given block (Some a) None l'' place heads e moved ends went far = absurd moved
+  searches_end t t' f f' given block (Some a) (Some b) None place heads e moved ends went far = absurd ends
+  searches_end t t' f f' given block (Some a) (Some b) (Some c) place heads (Ok x) moved ends went far = (λ lack. absurd (off_on lack), record { did = by_ending t t' f f' given a b (length c) place heads moved went.0 (Ok x) ends refl (λ z. z); near = λ e. absurd cc })
+  searches_end t t' f f' given block (Some a) (Some b) (Some c) place heads (Err faults.NotADatabase) moved ends went far = (λ lack. absurd (off_on lack), record { did = by_ending t t' f f' given a b (length c) place heads moved went.0 (Err faults.NotADatabase) ends refl (λ z. z); near = λ e. absurd cc })
+  searches_end t t' f f' given block (Some a) (Some b) (Some c) place heads (Err (faults.Damage d)) moved ends went far = (λ lack. absurd (off_on lack), record { did = by_ending t t' f f' given a b (length c) place heads moved went.0 (Err (faults.Damage d)) ends refl (λ z. z); near = λ e. absurd cc })
+  searches_end t t' f f' given block (Some a) (Some b) (Some c) place heads (Err faults.TooLarge) moved ends went far = (λ lack. absurd (off_on lack), record { did = by_ending t t' f f' given a b (length c) place heads moved went.0 (Err faults.TooLarge) ends refl (λ z. z); near = λ e. absurd cc })
+  searches_end t t' f f' given block (Some a) (Some b) (Some c) place heads (Err faults.ReadFault) moved ends went far =
       let part : t (so_far f a (length c)) ≡ after_paths given (no_paths place heads ends.ending) = moved.parts ends.goes_on (length c) ends.fewer ∙ ap (after_paths given) ends.nothing in
-      (λ _. (moved.goes_on ends.goes_on).0, all_given given (t (so_far f a (length c))) outcomes.ReadFault went.0 (ap (λ (z : ToCome). z.paths) part) (λ lack. absurd (on_off lack)) (λ z. z))
+      (λ _. (moved.goes_on ends.goes_on).0, record { did = all_given given (t (so_far f a (length c))) outcomes.ReadFault went.0 (ap (λ (z : ToCome). z.paths) part) (λ lack. absurd (on_off lack)) (λ z. z); near = λ e. absurd cc })
 
 -- ---- whatever the gate answers
 

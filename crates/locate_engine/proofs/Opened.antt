@@ -1,7 +1,7 @@
 -- A search of a file that was just opened.
 use Rattle.std.proofs.Common.{◌≡◌, ℕ, ◌+◌, ◌-◌, ◌^◌, ◌≤◌, ◌<◌, Bool, true, false, cond, ◌||◌, List, [], length, take, drop, Option, Some, None, Ok, Err, IfSome, refl, sym, ap, subst, ◌∙◌, length-drop, arith}
 use Rattle.std.proofs.Math.Seq.{take-nil}
-use Rattle.std.specs.Prelude.{nat_le}
+use Rattle.std.specs.Prelude.{nat_le, IsSome}
 use Rattle.std.specs.FinMap as map
 use Rattle.loc_outside.specs.Files.{Files}
 use Rattle.loc_outside.specs.Causes.{raised}
@@ -13,7 +13,7 @@ use Rattle.byte_feed.specs.declared.damage.DbFault.{DbFault}
 use Rattle.byte_feed.specs.declared.damage.DbFault.TheVariants as faults
 use Rattle.byte_feed.specs.Front.{Window, limit, readable, items_of, items_within}
 use Rattle.byte_feed.specs.Feed.{FeedState, empty_at, window, so_far, reach, Draws}
-use Rattle.byte_feed.specs.Paths.{ToCome, Moved, MovedKnown, EndsKnown, BeginsKnown, no_paths, rest_of}
+use Rattle.byte_feed.specs.Paths.{Ending, StopsAt, ToCome, Moved, MovedKnown, EndsKnown, BeginsKnown, no_paths, rest_of}
 use Rattle.byte_feed.proofs.Draws.{draws_then}
 use Rattle.byte_feed.proofs.Rests.{moved_none}
 use Rattle.any_db.specs.Formats.{format_of, rest_in, beginning, asks_gate, is_gated, contents, contents_of_part}
@@ -21,13 +21,13 @@ use Rattle.any_db.specs.Reader.{fresh, feed_of, paths_left}
 use Rattle.any_db.specs.declared.any_reader.AnyReader.{AnyReader}
 use Rattle.any_db.proofs.Blocks.{one_directory_a_block}
 use Rattle.locate_engine.specs.Passing.{Rule, rule_of, tests_asked, OneDirectory}
-use Rattle.locate_engine.specs.Searched.{Stand, Progress, gone_through, outcome_of, is_read_fault, ComesToEnd, StopsAs, Searches, SearchesWhole, SearchesKnown, EndsWithin, EndsWithinKnown, is_by_end, OneDirectoryLeft, seen_of}
-use Rattle.locate_engine.specs.Files.{seen_in, SearchesFile, SearchesAll}
+use Rattle.locate_engine.specs.Searched.{Stand, Progress, gone_through, outcome_of, is_read_fault, ComesToEnd, StopsAs, Searches, SearchesTo, SearchesWhole, SearchesKnown, EndsWithin, EndsWithinKnown, is_by_end, OneDirectoryLeft, seen_of}
+use Rattle.locate_engine.specs.Files.{seen_in, SearchesFile, SearchesAll, ReadsOnce}
 use Rattle.locate_engine.specs.declared.query.Query.{Query}
 use Rattle.locate_engine.specs.declared.outcome.Outcome.{Outcome}
 use Rattle.locate_engine.specs.declared.outcome.Outcome.TheVariants as outcomes
 use Rattle.locate_engine.proofs.Gone.{went_none}
-use Rattle.locate_engine.proofs.Exits.{all_given, ended_end, ended_later, on_off}
+use Rattle.locate_engine.proofs.Exits.{all_given, ended_end, ended_later, off_on, on_off}
 use Rattle.locate_engine.proofs.Whole.{searches_whole}
 
 -- ---- from the first byte on
@@ -125,16 +125,27 @@ no_path_by : (rule : Rule) (bound : List ℕ → ℕ) (old : Stand) (s : ℕ) (s
     → (ComesToEnd rule seen old.matched (gone_through seen.paths) result → StopsAs rule seen old.matched (gone_through seen.paths) result) → Searches rule bound seen old old s s result
 no_path_by rule bound old s seen result below none ends stops = all_given rule bound old old s s below [] seen result (went_none rule bound old s) none ends stops
 
+-- no ending is a limit that was reached
+no_limit : (e : Ending) → outcome_of e ≡ outcomes.LimitReached → ⊥
+no_limit (Ok x) is = absurd cc
+no_limit (Err faults.NotADatabase) is = absurd cc
+no_limit (Err (faults.Damage d)) is = absurd cc
+no_limit (Err faults.ReadFault) is = absurd cc
+no_limit (Err faults.TooLarge) is = absurd cc
+
 module _ (wanted : List ℕ → Bool) (bound : List ℕ → ℕ) (query : Query) (tests : Option Tests) (old : Stand) (s : ℕ) (below : IfSome query.limit (λ limit. old.matched < limit)) where
-  any_tests : (file : List ℕ) (g g' : ℕ) (result : Outcome) → ((result ≡ outcomes.ReadFault → g ≤ 2 ^ 63) → (told : Tests) → Searches (rule_of wanted query (is_gated file) told) bound (seen_in file (g' - g) result) old old s s result)
+  any_tests : (file : List ℕ) (g g' : ℕ) (result : Outcome) → (result ≡ outcomes.LimitReached → ⊥)
+      → ((result ≡ outcomes.ReadFault → g ≤ 2 ^ 63) → (told : Tests) → Searches (rule_of wanted query (is_gated file) told) bound (seen_in file (g' - g) result) old old s s result)
       → SearchesFile wanted bound query file tests g g' old old s s result
-  any_tests file g g' result all = if_some (tests_asked (is_gated file || query.existing) tests) (λ told. (result ≡ outcomes.ReadFault → g ≤ 2 ^ 63) → Searches (rule_of wanted query (is_gated file) told) bound (seen_in file (g' - g) result) old old s s result) (λ told small. all small told)
+  any_tests file g g' result early all =
+      if_some (tests_asked (is_gated file || query.existing) tests) (λ told. (result ≡ outcomes.ReadFault → g ≤ 2 ^ 63) → SearchesTo (rule_of wanted query (is_gated file) told) bound (seen_in file (g' - g) result) old old s s result (g' - g))
+      (λ told small. record { did = all small told; near = λ is. absurd (early is) })
 
   -- the file ends so before its first path
   fails_whole : (fault : DbFault) (file : List ℕ) (g g' : ℕ) → rest_in (window (empty_at 0) file) ≡ no_paths 0 0 (Err fault) → is_read_fault (outcome_of (Err fault)) ≡ false
       → ((rule : Rule) (seen : ToCome) (at : Progress) → ComesToEnd rule seen old.matched at (outcome_of (Err fault)) → StopsAs rule seen old.matched at (outcome_of (Err fault)))
       → SearchesFile wanted bound query file tests g g' old old s s (outcome_of (Err fault))
-  fails_whole fault file g g' nothing read stops = any_tests file g g' (outcome_of (Err fault)) (λ small told.
+  fails_whole fault file g g' nothing read stops = any_tests file g g' (outcome_of (Err fault)) (no_limit (Err fault)) (λ small told.
       let seen : seen_in file (g' - g) (outcome_of (Err fault)) ≡ no_paths 0 0 (Err fault) =
       ap (λ (b : Bool). cond b (contents_of_part (g' - g) file) (contents file)) read ∙ ap rest_in (sym (whole_window file)) ∙ nothing in
       no_path_by (rule_of wanted query (is_gated file) told) bound old s (seen_in file (g' - g) (outcome_of (Err fault))) (outcome_of (Err fault)) below (ap (λ (z : ToCome). z.paths) seen)
@@ -142,7 +153,7 @@ module _ (wanted : List ℕ → Bool) (bound : List ℕ → ℕ) (query : Query)
 
   fails_by : (fault : DbFault) (f : FeedState) (file left : List ℕ) (g g' : ℕ) → EndsKnown rest_in (no_paths 0 0) (empty_at 0) (Some file) (Some left) (Err fault) → Draws (empty_at 0) f g g' (Some file) (Some left) → reach f ≤ 2 ^ 40
       → SearchesFile wanted bound query file tests g g' old old s s (outcome_of (Err fault))
-  fails_by faults.ReadFault f file left g g' ends drawn far = any_tests file g g' outcomes.ReadFault (λ small told.
+  fails_by faults.ReadFault f file left g g' ends drawn far = any_tests file g g' outcomes.ReadFault (λ e. absurd cc) (λ small told.
       let seen : rest_in (so_far (empty_at 0) file (length left)) ≡ seen_in file (g' - g) outcomes.ReadFault = seen_by f g g' file left outcomes.ReadFault drawn far small in
       no_path_by (rule_of wanted query (is_gated file) told) bound old s (seen_in file (g' - g) outcomes.ReadFault) outcomes.ReadFault below (ap (λ (z : ToCome). z.paths) (sym seen ∙ ends.nothing))
       (λ e. absurd (on_off e)) (λ z. z))
@@ -166,7 +177,7 @@ module _ (wanted : List ℕ → Bool) (bound : List ℕ → ℕ) (query : Query)
   -- ---- a file that could not be opened
 
   unopened_file : (file : List ℕ) (g g' : ℕ) → g' ≡ g → SearchesFile wanted bound query file tests g g' old old s s outcomes.ReadFault
-  unopened_file file g g' same = any_tests file g g' outcomes.ReadFault (λ small told.
+  unopened_file file g g' same = any_tests file g g' outcomes.ReadFault (λ e. absurd cc) (λ small told.
       no_path_by (rule_of wanted query (is_gated file) told) bound old s (seen_in file (g' - g) outcomes.ReadFault) outcomes.ReadFault below (nothing_given (g' - g) file (omega (arith, same)))
       (λ e. absurd (on_off e)) (λ z. z))
 
@@ -194,22 +205,22 @@ seen_later false t t' f f' l l' n moved on fewer = sym moved.whole
 module _ (wanted : List ℕ → Bool) (bound : List ℕ → ℕ) (query : Query) (tests : Option Tests) (old new : Stand) (s s' : ℕ) (result : Outcome) where
   in_file : (t : Window → ToCome) (f f' : FeedState) (file mid left : List ℕ) (g g' g'' : ℕ) (gated : Bool) → is_gated file ≡ gated
       → Moved rest_in t (λ x. x) (empty_at 0) file f mid → Draws f f' g' g'' (Some mid) (Some left) → Draws (empty_at 0) f' g g'' (Some file) (Some left) → reach f' ≤ 2 ^ 40
-      → IfSome (tests_asked (gated || query.existing) tests) (λ told. SearchesKnown (rule_of wanted query gated told) bound t f (Some mid) (Some left) old new s s' result)
+      → IfSome (tests_asked (gated || query.existing) tests) (λ told. SearchesKnown (rule_of wanted query gated told) bound t f (Some mid) (Some left) old new s s' result (reach f'))
       → SearchesFile wanted bound query file tests g g'' old new s s' result
   in_file t f f' file mid left g g' g'' gated same moved more drawn far done =
-      subst (λ (b : Bool). IfSome (tests_asked (b || query.existing) tests) (λ told. (result ≡ outcomes.ReadFault → g ≤ 2 ^ 63) → Searches (rule_of wanted query b told) bound (seen_in file (g'' - g) result) old new s s' result)) (sym same)
+      subst (λ (b : Bool). IfSome (tests_asked (b || query.existing) tests) (λ told. (result ≡ outcomes.ReadFault → g ≤ 2 ^ 63) → SearchesTo (rule_of wanted query b told) bound (seen_in file (g'' - g) result) old new s s' result (g'' - g))) (sym same)
       (if_each (tests_asked (gated || query.existing) tests)
-      (λ told. SearchesKnown (rule_of wanted query gated told) bound t f (Some mid) (Some left) old new s s' result)
-      (λ told. (result ≡ outcomes.ReadFault → g ≤ 2 ^ 63) → Searches (rule_of wanted query gated told) bound (seen_in file (g'' - g) result) old new s s' result)
+      (λ told. SearchesKnown (rule_of wanted query gated told) bound t f (Some mid) (Some left) old new s s' result (reach f'))
+      (λ told. (result ≡ outcomes.ReadFault → g ≤ 2 ^ 63) → SearchesTo (rule_of wanted query gated told) bound (seen_in file (g'' - g) result) old new s s' result (g'' - g))
       (λ told known small.
-      subst (λ (z : ToCome). Searches (rule_of wanted query gated told) bound z old new s s' result)
+      subst (λ (z : ToCome). SearchesTo (rule_of wanted query gated told) bound z old new s s' result (g'' - g))
       (seen_later (is_read_fault result) rest_in t (empty_at 0) f file mid (length left) moved known.0 (fewer_left f f' g' g'' mid left more) ∙ seen_by f' g g'' file left result drawn far small)
-      known.1)
+      (record { did = known.1.did; near = λ is. omega (arith, known.1.near is, drawn.count) }))
       done)
 
   found_known : (t : Window → ToCome) (f f' : FeedState) (l l' l'' : Option (List ℕ)) (g g' g'' place : ℕ) (gated : Bool) → BeginsKnown beginning (empty_at 0) l place gated
       → MovedKnown rest_in t (λ x. x) (empty_at 0) l f l' → Draws (empty_at 0) f g g' l l' → Draws f f' g' g'' l' l'' → reach f' ≤ 2 ^ 40
-      → (OneDirectoryLeft gated t f l' → IfSome (tests_asked (gated || query.existing) tests) (λ told. SearchesKnown (rule_of wanted query gated told) bound t f l' l'' old new s s' result))
+      → (OneDirectoryLeft gated t f l' → IfSome (tests_asked (gated || query.existing) tests) (λ told. SearchesKnown (rule_of wanted query gated told) bound t f l' l'' old new s s' result (reach f')))
       → IfSome l (λ file. SearchesFile wanted bound query file tests g g'' old new s s' result)
   found_known t f f' None l' l'' g g' g'' place gated begun moved drawn more far done = tt
   found_known t f f' (Some file) None l'' g g' g'' place gated begun moved drawn more far done = absurd moved
@@ -220,7 +231,7 @@ module _ (wanted : List ℕ → Bool) (bound : List ℕ → ℕ) (query : Query)
 
   pub opened_searched : (r : AnyReader) → r ≡ fresh → (t : Window → ToCome) (f f' : FeedState) (l l' l'' : Option (List ℕ)) (g g' g'' place : ℕ) (gated : Bool) → BeginsKnown beginning (feed_of r.stage) l place gated
       → MovedKnown (paths_left r.stage) t (λ x. x) (feed_of r.stage) l f l' → Draws (feed_of r.stage) f g g' l l' → Draws f f' g' g'' l' l'' → reach f' ≤ 2 ^ 40
-      → (OneDirectoryLeft gated t f l' → IfSome (tests_asked (gated || query.existing) tests) (λ told. SearchesKnown (rule_of wanted query gated told) bound t f l' l'' old new s s' result))
+      → (OneDirectoryLeft gated t f l' → IfSome (tests_asked (gated || query.existing) tests) (λ told. SearchesKnown (rule_of wanted query gated told) bound t f l' l'' old new s s' result (reach f')))
       → IfSome l (λ file. SearchesFile wanted bound query file tests g g'' old new s s' result)
   opened_searched r new' t f f' l l' l'' g g' g'' place gated begun moved drawn more far done =
       found_known t f f' l l' l'' g g' g'' place gated (subst (λ (q : AnyReader). BeginsKnown beginning (feed_of q.stage) l place gated) new' begun)
@@ -233,10 +244,10 @@ module _ (wanted : List ℕ → Bool) (bound : List ℕ → ℕ) (query : Query)
   whole_file file g g' done read gate write =
       let seen : seen_in file (g' - g) result ≡ contents file = ap (λ (b : Bool). cond b (contents_of_part (g' - g) file) (contents file)) (no_read_fault result read) in
       if_each (tests_asked (is_gated file || query.existing) tests)
-      (λ told. (result ≡ outcomes.ReadFault → g ≤ 2 ^ 63) → Searches (rule_of wanted query (is_gated file) told) bound (seen_in file (g' - g) result) old new s s' result)
+      (λ told. (result ≡ outcomes.ReadFault → g ≤ 2 ^ 63) → SearchesTo (rule_of wanted query (is_gated file) told) bound (seen_in file (g' - g) result) old new s s' result (g' - g))
       (λ told. SearchesWhole (rule_of wanted query (is_gated file) told) (contents file) old new result)
       (λ told known. searches_whole (rule_of wanted query (is_gated file) told) bound (contents file) old new s s' result
-      (subst (λ (z : ToCome). Searches (rule_of wanted query (is_gated file) told) bound z old new s s' result) seen (known (λ e. absurd (read e)))) read gate write)
+      (subst (λ (z : ToCome). Searches (rule_of wanted query (is_gated file) told) bound z old new s s' result) seen (known (λ e. absurd (read e))).did) read gate write)
       done
 
   exact_in : (found : Option (List ℕ)) (g g' : ℕ) (A B C : Type 0) → (result ≡ outcomes.ReadFault → A) → (result ≡ outcomes.GateFault → B) → (result ≡ outcomes.WriteFault → C)
@@ -274,3 +285,65 @@ ended_begin bound s r new fault l l' ends =
     ended_file bound s s (outcome_of (Err fault)) l
     (ended_end bound rest_in rest_in (empty_at 0) (empty_at 0) [] l l l' s s (omega arith) 0 0 (Err fault) (moved_none rest_in (empty_at 0) l)
     (subst (λ (q : AnyReader). EndsKnown (paths_left q.stage) (no_paths 0 0) (feed_of q.stage) l l' (Err fault)) new ends))
+
+-- ---- how much was read
+
+-- all of the file that was drawn, and no more
+once_by : (f : FeedState) (g g' : ℕ) (file left : List ℕ) (result : Outcome) → Draws (empty_at 0) f g g' (Some file) (Some left) → (result ≡ outcomes.Whole → f.ended ≡ true) → (result ≡ outcomes.TooLarge → reach f ≡ 2 ^ 40) → ReadsOnce file g g' result
+once_by f g g' file left result drawn whole large =
+    let n : ℕ = reach f - reach (empty_at 0) in
+    record {
+      most = omega (arith, drawn.count, drawn.rest.0);
+      whole = λ is.
+      let all : n ≡ length file = omega (arith, drawn.rest.0, ap length drawn.rest.1, ap length (drawn.ends refl (whole is)), length-drop n file) in
+      drawn.count ∙ ap (raised g) all;
+      too_large = λ is.
+      let all : n ≡ 2 ^ 40 = omega (arith, large is) in
+      drawn.count ∙ ap (raised g) all;
+    }
+
+once_drawn : (f : FeedState) (g g' : ℕ) (l l' : Option (List ℕ)) (result : Outcome) → Draws (empty_at 0) f g g' l l' → (result ≡ outcomes.Whole → f.ended ≡ true) → (result ≡ outcomes.TooLarge → reach f ≡ 2 ^ 40) → IfSome l (λ file. ReadsOnce file g g' result)
+once_drawn f g g' None l' result drawn whole large = tt
+once_drawn f g g' (Some file) None result drawn whole large = absurd drawn.rest
+once_drawn f g g' (Some file) (Some left) result drawn whole large = once_by f g g' file left result drawn whole large
+
+-- by a reader that had read nothing
+pub once_opened : (r : AnyReader) → r ≡ fresh → (f : FeedState) (g g' : ℕ) (l l' : Option (List ℕ)) (result : Outcome) → Draws (feed_of r.stage) f g g' l l' → (result ≡ outcomes.Whole → f.ended ≡ true) → (result ≡ outcomes.TooLarge → reach f ≡ 2 ^ 40)
+    → IfSome l (λ file. ReadsOnce file g g' result)
+once_opened r new f g g' l l' result drawn whole large = once_drawn f g g' l l' result (subst (λ (q : AnyReader). Draws (feed_of q.stage) f g g' l l') new drawn) whole large
+
+-- of a file that was found by its name
+pub once_found : (files : Option Files) (name : List ℕ) (left : Option (List ℕ)) (g g' : ℕ) (result : Outcome) → (o : Opened) → o ≡ Found → OpensAs files name (Ok o) left → IfSome left (λ file. ReadsOnce file g g' result)
+    → IfSome files (λ files. IfSome (map.get files name) (λ file. ReadsOnce file g g' result))
+once_found None name left g g' result o found opened once = tt
+once_found (Some files) name left g g' result o found opened once =
+    let was : OpensAs (Some files) name (Ok Found) left = subst (λ (x : Opened). OpensAs (Some files) name (Ok x) left) found opened in
+    subst (λ (o : Option (List ℕ)). IfSome o (λ file. ReadsOnce file g g' result)) was.1 once
+
+-- a file that was found is there
+pub found_there : (files : Option Files) (name : List ℕ) (left : Option (List ℕ)) (P : Type 0) → (o : Opened) → o ≡ Found → OpensAs files name (Ok o) left → IfSome files (λ files. map.get files name ≡ None → P)
+found_there None name left P o found opened = tt
+found_there (Some files) name left P o found opened =
+    let was : OpensAs (Some files) name (Ok Found) left = subst (λ (x : Opened). OpensAs (Some files) name (Ok x) left) found opened in
+    λ gone. absurd (off_on (subst (λ (x : Option (List ℕ)). IsSome x) (was.1 ∙ gone) was.0))
+
+-- of one that could not be opened, or is not there
+pub once_unopened : (files : Option Files) (name : List ℕ) (g g' : ℕ) (result : Outcome) → g' ≡ g → (result ≡ outcomes.Whole → ⊥) → (result ≡ outcomes.TooLarge → ⊥) → IfSome files (λ files. IfSome (map.get files name) (λ file. ReadsOnce file g g' result))
+once_unopened None name g g' result same whole large = tt
+once_unopened (Some files) name g g' result same whole large =
+    if_some (map.get files name) (λ file. ReadsOnce file g g' result) (λ file. record { most = omega (arith, same); whole = λ is. absurd (whole is); too_large = λ is. absurd (large is) })
+
+-- what a stop says of the bytes read
+pub all_read : (e : Ending) (f : FeedState) (place : ℕ) → StopsAt f place e → outcome_of e ≡ outcomes.Whole → f.ended ≡ true
+all_read (Ok x) f place stops is = stops.1
+all_read (Err faults.NotADatabase) f place stops is = absurd cc
+all_read (Err (faults.Damage d)) f place stops is = absurd cc
+all_read (Err faults.ReadFault) f place stops is = absurd cc
+all_read (Err faults.TooLarge) f place stops is = absurd cc
+
+pub limit_read : (e : Ending) (f : FeedState) (place : ℕ) → StopsAt f place e → outcome_of e ≡ outcomes.TooLarge → reach f ≡ 2 ^ 40
+limit_read (Ok x) f place stops is = absurd cc
+limit_read (Err faults.NotADatabase) f place stops is = absurd cc
+limit_read (Err (faults.Damage d)) f place stops is = absurd cc
+limit_read (Err faults.ReadFault) f place stops is = absurd cc
+limit_read (Err faults.TooLarge) f place stops is = stops

@@ -124,6 +124,17 @@ pub record Searches (rule : Rule) (bound : List ℕ → ℕ) (seen : ToCome) (ol
   pub within : steps' ≤ steps + steps_over bound (at.gone ++ at.hand)
   pub stops : StopsAs rule seen new.matched at result
 
+-- where the item of the last of these paths ends
+abbrev pub end_after : ℕ → List PathAt → ℕ
+end_after place [] = place
+end_after place (p ∷ paths) = end_after p.place paths
+
+-- What a search did, and how far the file was read: where the limit was reached, no more than 20,480 bytes past the last
+-- path that was gone through.
+pub record SearchesTo (rule : Rule) (bound : List ℕ → ℕ) (seen : ToCome) (old new : Stand) (steps steps' : ℕ) (result : Outcome) (far : ℕ) : Type 0 where
+  pub did : Searches rule bound seen old new steps steps' result
+  pub near : result ≡ outcomes.LimitReached → far ≤ end_after 0 did.at.gone + 20480
+
 -- Where no call failed: the lines of the first paths that pass were printed, up to the limit, and each counted.
 pub record SearchesWhole (rule : Rule) (seen : ToCome) (old new : Stand) (result : Outcome) : Type 0 where
   pub prints : Appends old.taken new.taken (lines rule (up_to rule.limit old.matched (passing rule seen.paths)))
@@ -147,11 +158,11 @@ abbrev pub seen_of : (Window → ToCome) → FeedState → List ℕ → ℕ → 
 seen_of before f left n result = before (if is_read_fault result then so_far f left n else window f left)
 
 -- What a search did, where the source tells its bytes. A source that fails had not ended for the stream.
-abbrev pub SearchesKnown : Rule → (List ℕ → ℕ) → (Window → ToCome) → FeedState → Option (List ℕ) → Option (List ℕ) → Stand → Stand → ℕ → ℕ → Outcome → Type 0
-SearchesKnown rule bound before f None left' old new steps steps' result = ⊤
-SearchesKnown rule bound before f (Some l) None old new steps steps' result = ⊥
-SearchesKnown rule bound before f (Some l) (Some l') old new steps steps' result =
-    (is_read_fault result ≡ true → f.ended ≡ false) × Searches rule bound (seen_of before f l (length l') result) old new steps steps' result
+abbrev pub SearchesKnown : Rule → (List ℕ → ℕ) → (Window → ToCome) → FeedState → Option (List ℕ) → Option (List ℕ) → Stand → Stand → ℕ → ℕ → Outcome → ℕ → Type 0
+SearchesKnown rule bound before f None left' old new steps steps' result far = ⊤
+SearchesKnown rule bound before f (Some l) None old new steps steps' result far = ⊥
+SearchesKnown rule bound before f (Some l) (Some l') old new steps steps' result far =
+    (is_read_fault result ≡ true → f.ended ≡ false) × SearchesTo rule bound (seen_of before f l (length l') result) old new steps steps' result far
 
 abbrev pub EndsWithinKnown : (List ℕ → ℕ) → (Window → ToCome) → FeedState → Option (List ℕ) → ℕ → ℕ → Outcome → Type 0
 EndsWithinKnown bound before f left steps steps' result = IfSome left (λ bytes. EndsWithin bound (before (window f bytes)) steps steps' result)

@@ -1,9 +1,10 @@
 //! The statistics of a database.
-ghost use Rattle.std.specs.Prelude.{◌≡◌, ◌+◌, ◌-◌, ◌*◌, ◌≤◌, ◌^◌, [], length, take, None, Err, IfSome, IsTrue};
+ghost use Rattle.std.specs.Prelude.{◌≡◌, ◌+◌, ◌-◌, ◌*◌, ◌≤◌, ◌^◌, [], length, take, true, None, Err, IfSome, IsTrue};
 ghost use Rattle.std.specs.FinMap as map;
 ghost use Rattle.loc_outside.specs.Causes.{Rose, raised};
 ghost use Rattle.path_order.specs.Path.{joined};
 ghost use Rattle.byte_feed.specs.Feed.{Draws, reach};
+ghost use Rattle.locate_engine.specs.Files.{ReadsOnce};
 ghost use Rattle.locate_engine.specs.Searched.{outcome_of, is_missing_or_read_fault};
 ghost use Rattle.locate_engine.specs.Statistics.{name_len, counted, no_stats, stats_after, Counts, CountsKnown, DamagedAt, Fits, ends_reading, read_in};
 
@@ -53,6 +54,8 @@ pub fn statistics<R: Reader>(name: &str, reader: &mut R) -> (Stats, Outcome)
     ensures unread { result.1 ≡ Outcome.Missing → R.given reader.new ≡ R.given reader.old }
     ensures damaged { DamagedAt result.0.stored result.1 }
     ensures too_large { result.1 ≡ Outcome.TooLarge → R.given reader.new ≡ raised (R.given reader.old) (2 ^ 40) }
+    ensures read_once { IfSome (R.files reader.old) (λ files. IfSome (map.get files name.now) (λ file. ReadsOnce file (R.given reader.old) (R.given reader.new) result.1)) }
+    ensures read_none { IfSome (R.files reader.old) (λ files. map.get files name.now ≡ None → R.given reader.new ≡ R.given reader.old) }
     ensures reading { IsTrue (ends_reading result.1) }
     ensures fits { Fits result.0 }
     ensures read_fault { result.1 ≡ Outcome.ReadFault → Rose (R.faults reader.old) (R.faults reader.new) }
@@ -76,6 +79,7 @@ fn statistics_opened<R: Reader>(reader: &mut R) -> (Stats, Outcome)
     ensures there { result.1 ≡ Outcome.Missing → ⊥ }
     ensures damaged { DamagedAt result.0.stored result.1 }
     ensures too_large { result.1 ≡ Outcome.TooLarge → R.given reader.new ≡ raised (R.given reader.old) (2 ^ 40) }
+    ensures read_once { IfSome (R.left reader.old) (λ file. ReadsOnce file (R.given reader.old) (R.given reader.new) result.1) }
     ensures reading { IsTrue (ends_reading result.1) }
     ensures fits { Fits result.0 }
     ensures read_fault { result.1 ≡ Outcome.ReadFault → Rose (R.faults reader.old) (R.faults reader.new) }
@@ -96,6 +100,7 @@ fn count_all<P: PathStream, S: Source>(stream: &mut P, src: &mut S) -> (Stats, O
     ensures there { result.1 ≡ Outcome.Missing → ⊥ }
     ensures damaged { DamagedAt result.0.stored result.1 }
     ensures too_large { result.1 ≡ Outcome.TooLarge → reach (P.feed stream.new) ≡ 2 ^ 40 }
+    ensures whole { result.1 ≡ Outcome.Whole → (P.feed stream.new).ended ≡ true }
     ensures reading { IsTrue (ends_reading result.1) }
     ensures fits { Fits result.0 }
     ensures read_fault { result.1 ≡ Outcome.ReadFault → Rose (S.faults src.old) (S.faults src.new) }
@@ -118,6 +123,7 @@ fn count_paths<P: PathStream, S: Source>(stream: &mut P, src: &mut S) -> (Stats,
     ensures there { result.1 ≡ Outcome.Missing → ⊥ }
     ensures damaged { DamagedAt result.0.stored result.1 }
     ensures too_large { result.1 ≡ Outcome.TooLarge → reach (P.feed stream.new) ≡ 2 ^ 40 }
+    ensures whole { result.1 ≡ Outcome.Whole → (P.feed stream.new).ended ≡ true }
     ensures reading { IsTrue (ends_reading result.1) }
     ensures fits { Fits result.0 }
     ensures read_fault { result.1 ≡ Outcome.ReadFault → Rose (S.faults src.old) (S.faults src.new) }

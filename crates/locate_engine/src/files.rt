@@ -5,7 +5,7 @@ ghost use Rattle.loc_outside.specs.Causes.{Rose};
 ghost use Rattle.any_db.specs.Formats.{contents};
 ghost use Rattle.locate_engine.specs.Searched.{EndsWithin, is_missing_or_read_fault, stand};
 ghost use Rattle.locate_engine.specs.Globs.{steps_on, wanted};
-ghost use Rattle.locate_engine.specs.Files.{SearchesFile, SearchesAll};
+ghost use Rattle.locate_engine.specs.Files.{SearchesFile, SearchesAll, ReadsOnce};
 
 use crate::glob_matcher::GlobMatcher;
 use crate::matcher::Matcher;
@@ -33,7 +33,8 @@ pub fn search<R: Reader, G: Gate, P: Sink, L: Ledger>(
     requires below { IfSome query.now.limit (λ limit. tally.old.matched < limit) }
     ensures missing { IfSome (R.files reader.old) (λ files. result ≡ Outcome.Missing → map.get files name.now ≡ None) }
     ensures absent { IfSome (R.files reader.old) (λ files. map.get files name.now ≡ None → IsTrue (is_missing_or_read_fault result)) }
-    ensures nothing { IfSome (R.files reader.old) (λ files. map.get files name.now ≡ None → (out.new ≡ out.old) × (gate.new ≡ gate.old) × (tally.new ≡ tally.old) × (steps.new ≡ steps.old) × (R.given reader.new ≡ R.given reader.old)) }
+    ensures nothing { IfSome (R.files reader.old) (λ files. map.get files name.now ≡ None → (out.new ≡ out.old) × (gate.new ≡ gate.old) × (tally.new ≡ tally.old) × (steps.new ≡ steps.old)) }
+    ensures read_none { IfSome (R.files reader.old) (λ files. map.get files name.now ≡ None → R.given reader.new ≡ R.given reader.old) }
     ensures unopened { result ≡ Outcome.Missing → (out.new ≡ out.old) × (gate.new ≡ gate.old) × (tally.new ≡ tally.old) × (steps.new ≡ steps.old) × (R.given reader.new ≡ R.given reader.old) }
     ensures searched { IfSome (R.files reader.old) (λ files. IfSome (map.get files name.now) (λ file.
         SearchesFile (wanted query.now) (steps_on query.now) query.now file (G.tests gate.old) (R.given reader.old) (R.given reader.new)
@@ -41,6 +42,7 @@ pub fn search<R: Reader, G: Gate, P: Sink, L: Ledger>(
     ensures exact { IfSome (R.files reader.old) (λ files. IfSome (map.get files name.now) (λ file.
         (Rose (R.faults reader.old) (R.faults reader.new) → ⊥) → (Rose (G.faults gate.old) (G.faults gate.new) → ⊥) → (Rose (P.faults out.old) (P.faults out.new) → ⊥) →
         SearchesAll (wanted query.now) query.now file (G.tests gate.old) (stand (P.taken out.old) tally.old.matched (G.asks gate.old)) (stand (P.taken out.new) tally.new.matched (G.asks gate.new)) result)) }
+    ensures read_once { IfSome (R.files reader.old) (λ files. IfSome (map.get files name.now) (λ file. ReadsOnce file (R.given reader.old) (R.given reader.new) result)) }
     ensures ended { IfSome (R.files reader.old) (λ files. IfSome (map.get files name.now) (λ file. EndsWithin (steps_on query.now) (contents file) steps.old steps.new result)) }
     ensures limit { result ≡ Outcome.LimitReached → query.now.limit ≡ Some tally.new.matched }
     ensures under { (result ≡ Outcome.LimitReached → ⊥) → IfSome query.now.limit (λ limit. tally.new.matched < limit) }
@@ -97,7 +99,8 @@ pub fn search_by<M: Matcher, R: Reader, G: Gate, P: Sink, L: Ledger>(
     requires below { IfSome query.now.limit (λ limit. tally.old.matched < limit) }
     ensures missing { IfSome (R.files reader.old) (λ files. result ≡ Outcome.Missing → map.get files name.now ≡ None) }
     ensures absent { IfSome (R.files reader.old) (λ files. map.get files name.now ≡ None → IsTrue (is_missing_or_read_fault result)) }
-    ensures nothing { IfSome (R.files reader.old) (λ files. map.get files name.now ≡ None → (out.new ≡ out.old) × (gate.new ≡ gate.old) × (tally.new ≡ tally.old) × (steps.new ≡ steps.old) × (R.given reader.new ≡ R.given reader.old)) }
+    ensures nothing { IfSome (R.files reader.old) (λ files. map.get files name.now ≡ None → (out.new ≡ out.old) × (gate.new ≡ gate.old) × (tally.new ≡ tally.old) × (steps.new ≡ steps.old)) }
+    ensures read_none { IfSome (R.files reader.old) (λ files. map.get files name.now ≡ None → R.given reader.new ≡ R.given reader.old) }
     ensures unopened { result ≡ Outcome.Missing → (out.new ≡ out.old) × (gate.new ≡ gate.old) × (tally.new ≡ tally.old) × (steps.new ≡ steps.old) × (R.given reader.new ≡ R.given reader.old) }
     ensures searched { IfSome (R.files reader.old) (λ files. IfSome (map.get files name.now) (λ file.
         SearchesFile (M.test matcher.old) (M.bound matcher.old) query.now file (G.tests gate.old) (R.given reader.old) (R.given reader.new)
@@ -105,6 +108,7 @@ pub fn search_by<M: Matcher, R: Reader, G: Gate, P: Sink, L: Ledger>(
     ensures exact { IfSome (R.files reader.old) (λ files. IfSome (map.get files name.now) (λ file.
         (Rose (R.faults reader.old) (R.faults reader.new) → ⊥) → (Rose (G.faults gate.old) (G.faults gate.new) → ⊥) → (Rose (P.faults out.old) (P.faults out.new) → ⊥) →
         SearchesAll (M.test matcher.old) query.now file (G.tests gate.old) (stand (P.taken out.old) tally.old.matched (G.asks gate.old)) (stand (P.taken out.new) tally.new.matched (G.asks gate.new)) result)) }
+    ensures read_once { IfSome (R.files reader.old) (λ files. IfSome (map.get files name.now) (λ file. ReadsOnce file (R.given reader.old) (R.given reader.new) result)) }
     ensures ended { IfSome (R.files reader.old) (λ files. IfSome (map.get files name.now) (λ file. EndsWithin (M.bound matcher.old) (contents file) steps.old steps.new result)) }
     ensures limit { result ≡ Outcome.LimitReached → query.now.limit ≡ Some tally.new.matched }
     ensures under { (result ≡ Outcome.LimitReached → ⊥) → IfSome query.now.limit (λ limit. tally.new.matched < limit) }
@@ -150,6 +154,7 @@ fn search_open<M: Matcher, R: Reader, G: Gate, P: Sink, L: Ledger>(
     ensures searched { IfSome (R.left reader.old) (λ file.
         SearchesFile (M.test matcher.old) (M.bound matcher.old) query.now file (G.tests gate.old) (R.given reader.old) (R.given reader.new)
         (stand (P.taken out.old) tally.old.matched (G.asks gate.old)) (stand (P.taken out.new) tally.new.matched (G.asks gate.new)) steps.old steps.new result) }
+    ensures read_once { IfSome (R.left reader.old) (λ file. ReadsOnce file (R.given reader.old) (R.given reader.new) result) }
     ensures ended { IfSome (R.left reader.old) (λ file. EndsWithin (M.bound matcher.old) (contents file) steps.old steps.new result) }
     ensures limit { result ≡ Outcome.LimitReached → query.now.limit ≡ Some tally.new.matched }
     ensures under { (result ≡ Outcome.LimitReached → ⊥) → IfSome query.now.limit (λ limit. tally.new.matched < limit) }

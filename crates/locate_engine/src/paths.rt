@@ -1,5 +1,5 @@
 //! The search of a stream of paths.
-ghost use Rattle.std.specs.Prelude.{◌≡◌, ◌≤◌, ◌<◌, ◌+◌, ◌^◌, ◌||◌, false, Some, IfSome, IsTrue};
+ghost use Rattle.std.specs.Prelude.{◌≡◌, ◌≤◌, ◌<◌, ◌+◌, ◌^◌, ◌||◌, true, false, Some, IfSome, IsTrue};
 ghost use Rattle.loc_outside.specs.Causes.{Rose};
 ghost use Rattle.byte_feed.specs.Feed.{Draws, reach};
 ghost use Rattle.locate_engine.specs.Passing.{rule_of, tests_asked};
@@ -40,7 +40,7 @@ pub(crate) fn search_paths<P: PathStream, S: Source, M: Matcher, G: Gate, K: Sin
     requires below { IfSome query.now.limit (λ limit. tally.old.matched < limit) }
     ensures searched { OneDirectoryLeft (P.is_gated stream.old) (P.to_come stream.old) (P.feed stream.old) (S.left src.old) → IfSome (tests_asked (P.is_gated stream.old || query.now.existing) (G.tests gate.old)) (λ told.
         SearchesKnown (rule_of (M.test matcher.old) query.now (P.is_gated stream.old) told) (M.bound matcher.old) (P.to_come stream.old) (P.feed stream.old) (S.left src.old) (S.left src.new)
-        (stand (K.taken out.old) tally.old.matched (G.asks gate.old)) (stand (K.taken out.new) tally.new.matched (G.asks gate.new)) steps.old steps.new result) }
+        (stand (K.taken out.old) tally.old.matched (G.asks gate.old)) (stand (K.taken out.new) tally.new.matched (G.asks gate.new)) steps.old steps.new result (reach (P.feed stream.new))) }
     ensures ended { EndsWithinKnown (M.bound matcher.old) (P.to_come stream.old) (P.feed stream.old) (S.left src.old) steps.old steps.new result }
     ensures limit { result ≡ Outcome.LimitReached → query.now.limit ≡ Some tally.new.matched }
     ensures under { (result ≡ Outcome.LimitReached → ⊥) → IfSome query.now.limit (λ limit. tally.new.matched < limit) }
@@ -53,6 +53,8 @@ pub(crate) fn search_paths<P: PathStream, S: Source, M: Matcher, G: Gate, K: Sin
     ensures gate_fault { result ≡ Outcome.GateFault → Rose (G.faults gate.old) (G.faults gate.new) }
     ensures write_fault { result ≡ Outcome.WriteFault → Rose (K.faults out.old) (K.faults out.new) }
     ensures spent { (result ≡ Outcome.LimitReached → ⊥) → (result ≡ Outcome.GateFault → ⊥) → (result ≡ Outcome.WriteFault → ⊥) → P.is_live stream.new ≡ false }
+    ensures whole { result ≡ Outcome.Whole → (P.feed stream.new).ended ≡ true }
+    ensures too_large { result ≡ Outcome.TooLarge → reach (P.feed stream.new) ≡ 2 ^ 40 }
     ensures drawn { Draws (P.feed stream.old) (P.feed stream.new) (S.given src.old) (S.given src.new) (S.left src.old) (S.left src.new) }
     ensures reach { reach (P.feed stream.new) ≤ 2 ^ 40 }
     ensures later { S.faults src.old ≤ S.faults src.new }

@@ -4,10 +4,11 @@ use Rattle.std.proofs.Common.{rules, ◌≡◌, ℕ, zero, suc, ◌+◌, ◌-◌
 use Rattle.std.proofs.lemmas.List.{append-nil, length-take}
 use Rattle.std.proofs.lemmas.Grind.{flat_map-append}
 use Rattle.std.proofs.KnownBytes.{Appends-trans, Appends-nil}
-use Rattle.std.specs.List.{flat_map}
+use Rattle.std.specs.List.{flat_map, list_any}
 use Rattle.std.specs.FinMap.{get}
 use Rattle.std.specs.Io.KnownBytes.{Appends}
 use Rattle.loc_outside.specs.Causes.{Rose, last_count}
+use Rattle.loc_outside.specs.Files.{Files}
 use Rattle.loc_outside.specs.Gates.{Tests}
 use Rattle.byte_feed.specs.Paths.{PathAt, ToCome}
 use Rattle.locate_engine.specs.Globs.{wanted}
@@ -20,9 +21,10 @@ use Rattle.locate_engine.specs.declared.outcome.Outcome.TheVariants as outcomes
 use Rattle.byte_feed.specs.declared.damage.DbFault.TheVariants as faults
 use Rattle.byte_feed.specs.Paths.{Ending}
 use Rattle.std.specs.Prelude.{Ok, Err}
+use Rattle.locate_tools.specs.Ran.{is_write_fault}
 use Rattle.locate_tools.specs.Standing.{Standing, Goes, IsComplete, ends_run}
 use Rattle.locate_tools.specs.Tried.{Known, known, TriedSearch, Moves, NoneFailed, IsMissingOrFailed, SearchedAll, stand_of}
-use Rattle.locate_tools.specs.Located.{World, passing_in, passing_at, ending_in, ending_at, found, endings, lines_of}
+use Rattle.locate_tools.specs.Located.{World, gated_in, passing_in, passing_at, ending_in, ending_at, found, endings, lines_of}
 
 -- ---- counts of failures along a run
 
@@ -144,12 +146,30 @@ rule_by wanted query gated existing tests = record {
 }
 
 -- where nobody asks the gate, its tests do not matter
-whole_by : (gated existing : Bool) (wanted : List ℕ → Bool) (query : Query) (tests : Tests) (seen : ToCome) (old new : Stand) (o : Outcome)
-    → IfSome (tests_asked (gated || existing) (Some tests)) (λ told. SearchesWhole (rule_by wanted query gated existing told) seen old new o)
-    → SearchesWhole (rule_by wanted query gated existing tests) seen old new o
-whole_by true existing wanted query tests seen old new o whole = whole
-whole_by false true wanted query tests seen old new o whole = whole
-whole_by false false wanted query tests seen old new o whole = record { prints = whole.prints; counts = whole.counts; ends = whole.ends }
+whole_by : (gated existing : Bool) (wanted : List ℕ → Bool) (query : Query) (tests : Option Tests) (world : Tests) (seen : ToCome) (old new : Stand) (o : Outcome) → ((gated || existing) ≡ true → tests ≡ Some world)
+    → IfSome (tests_asked (gated || existing) tests) (λ told. SearchesWhole (rule_by wanted query gated existing told) seen old new o)
+    → SearchesWhole (rule_by wanted query gated existing world) seen old new o
+whole_by true existing wanted query tests world seen old new o fits whole = subst (λ (t : Option Tests). IfSome t (λ told. SearchesWhole (rule_by wanted query true existing told) seen old new o)) (fits refl) whole
+whole_by false true wanted query tests world seen old new o fits whole = subst (λ (t : Option Tests). IfSome t (λ told. SearchesWhole (rule_by wanted query false true told) seen old new o)) (fits refl) whole
+whole_by false false wanted query tests world seen old new o fits whole = record { prints = whole.prints; counts = whole.counts; ends = whole.ends }
+
+-- the gate is asked of one database, or of one of these
+abbrev pub asks_one : Query → Option (List ℕ) → Bool
+asks_one query there = gated_in there || query.existing
+
+abbrev pub asks_some : Query → Files → List (List ℕ) → Bool
+asks_some query files names = query.existing || list_any (λ name. gated_in (get files name)) names
+
+asks_head : (g e rest : Bool) → (g || e) ≡ true → (e || (g || rest)) ≡ true
+asks_head true true rest is = refl
+asks_head true false rest is = refl
+asks_head false true rest is = refl
+asks_head false false rest is = absurd cc
+
+asks_rest : (g e rest : Bool) → (e || rest) ≡ true → (e || (g || rest)) ≡ true
+asks_rest g true rest is = refl
+asks_rest true false rest is = refl
+asks_rest false false rest is = is
 
 -- What one database gives where no call fails.
 pub record Finds (query : Query) (paths : List PathAt) (ending : Outcome) (s : Standing) (o : Outcome) (s' : Standing) : Type 0 where
@@ -169,10 +189,11 @@ unread_missing outcomes.TooLarge (inl e) read write = absurd cc
 unread_missing outcomes.LimitReached (inl e) read write = absurd cc
 unread_missing outcomes.WriteFault (inl e) read write = absurd cc
 
-finds_in : (there : Option (List ℕ)) (query : Query) (tests : Tests) (s : Standing) (o : Outcome) (s' : Standing) → Moves s o s' → NoneFailed s s' → Below query.limit s.matched
-    → (there ≡ None → IsMissingOrFailed o) → (there ≡ None → stand_of s' ≡ stand_of s) → IfSome there (λ file. NoneFailed s s' → SearchedAll query (Some tests) file s o s')
-    → Finds query (passing_in query tests there) (ending_in there) s o s'
-finds_in None query tests s o s' moves none below absent nothing whole =
+finds_in : (there : Option (List ℕ)) (query : Query) (tests : Option Tests) (world : Tests) (s : Standing) (o : Outcome) (s' : Standing) → Moves s o s' → NoneFailed s s' → Below query.limit s.matched
+    → (asks_one query there ≡ true → tests ≡ Some world)
+    → (there ≡ None → IsMissingOrFailed o) → (there ≡ None → stand_of s' ≡ stand_of s) → IfSome there (λ file. NoneFailed s s' → SearchedAll query tests file s o s')
+    → Finds query (passing_in query world there) (ending_in there) s o s'
+finds_in None query tests world s o s' moves none below fits absent nothing whole =
     let missing : o ≡ outcomes.Missing = unread_missing o (absent refl) (λ e. none.0 (moves.read_fault e)) (λ e. none.2 (moves.write_fault e)) in
     let same : stand_of s' ≡ stand_of s = nothing refl in
     let taken : s'.taken ≡ s.taken = ap (λ (x : Stand). x.taken) same in
@@ -183,13 +204,14 @@ finds_in None query tests s o s' moves none below absent nothing whole =
       counts = subst (λ (ps : List PathAt). s'.matched ≡ s.matched + length ps) (sym empty) (omega (arith, matched));
       ends = subst (λ (b : Bool). o ≡ (if b then outcomes.LimitReached else outcomes.Missing)) (sym (ap (at_limit query.limit) matched ∙ below_not_at query.limit s.matched below)) missing;
     }
-finds_in (Some file) query tests s o s' moves none below absent nothing whole =
-    let done = whole_by (is_gated file) query.existing (wanted query) query tests (contents file) (stand_of s) (stand_of s') o (whole none) in
+finds_in (Some file) query tests world s o s' moves none below fits absent nothing whole =
+    let done = whole_by (is_gated file) query.existing (wanted query) query tests world (contents file) (stand_of s) (stand_of s') o fits (whole none) in
     record { prints = done.prints; counts = done.counts; ends = done.ends }
 
-pub tried_finds : (query : Query) (world : World) (name : List ℕ) (s : Standing) (o : Outcome) (s' : Standing) → TriedSearch query (known (Some world.files) (Some world.tests)) name s o s' → NoneFailed s s' → Below query.limit s.matched → Finds query (passing_at query world name) (ending_at world name) s o s'
-tried_finds query world name s o s' tried none below =
-    finds_in (get world.files name) query world.tests s o s' tried.answers.moves none below tried.answers.absent tried.answers.nothing tried.whole
+pub tried_finds : (query : Query) (world : World) (tests : Option Tests) (name : List ℕ) (s : Standing) (o : Outcome) (s' : Standing) → TriedSearch query (known (Some world.files) tests) name s o s' → NoneFailed s s' → Below query.limit s.matched
+    → (asks_one query (get world.files name) ≡ true → tests ≡ Some world.tests) → Finds query (passing_at query world name) (ending_at world name) s o s'
+tried_finds query world tests name s o s' tried none below fits =
+    finds_in (get world.files name) query tests world.tests s o s' tried.answers.moves none below fits tried.answers.absent tried.answers.nothing tried.whole
 
 -- ---- all databases
 
@@ -267,18 +289,49 @@ stops_here one (n ∷ ns) [] s s' goes none = goes
 stops_here one [] (o ∷ os) s s' goes none = absurd goes
 stops_here one (n ∷ ns) (o ∷ os) s s' goes none = absurd cc
 
-pub goes_finds : (query : Query) (world : World) (names : List (List ℕ)) (os : List Outcome) (s s' : Standing)
-    → Goes (TriedSearch query (known (Some world.files) (Some world.tests))) names os s s' → IsComplete names os → NoneFailed s s' → Below query.limit s.matched
-    → FindsAll query world names s os s'
-goes_finds query world [] [] s s' goes complete none below = finds_none query world s s' goes
-goes_finds query world [] (o ∷ os) s s' goes complete none below = absurd goes
-goes_finds query world (n ∷ ns) [] s s' goes complete none below = absurd complete
-goes_finds query world (n ∷ ns) (o ∷ os) s s' goes complete none below =
-    let one = TriedSearch query (known (Some world.files) (Some world.tests)) in
-    let t = goes.0 in
-    let tried = goes.1 in
-    let here : Later s t = moves_later s o t tried.answers.moves in
-    let rest : Later t s' = goes_later one ns os t s' (λ name a p b done. moves_later a p b done.answers.moves) goes.2 in
-    finds_last (at_limit query.limit t.matched) query world n ns s o os t s' refl
-    (tried_finds query world n s o t tried (none_first s t s' rest none) below) below complete (stops_here one ns os t s' goes.2)
-    (λ under more. goes_finds query world ns os t s' goes.2 more (none_second s t s' here none) under)
+module _ (query : Query) (world : World) (tests : Option Tests) where
+  pub goes_finds : (names : List (List ℕ)) (os : List Outcome) (s s' : Standing)
+      → Goes (TriedSearch query (known (Some world.files) tests)) names os s s' → IsComplete names os → NoneFailed s s' → Below query.limit s.matched
+      → (asks_some query world.files names ≡ true → tests ≡ Some world.tests) → FindsAll query world names s os s'
+  goes_finds [] [] s s' goes complete none below fits = finds_none query world s s' goes
+  goes_finds [] (o ∷ os) s s' goes complete none below fits = absurd goes
+  goes_finds (n ∷ ns) [] s s' goes complete none below fits = absurd complete
+  goes_finds (n ∷ ns) (o ∷ os) s s' goes complete none below fits =
+      let one = TriedSearch query (known (Some world.files) tests) in
+      let t = goes.0 in
+      let tried = goes.1 in
+      let here : Later s t = moves_later s o t tried.answers.moves in
+      let rest : Later t s' = goes_later one ns os t s' (λ name a p b done. moves_later a p b done.answers.moves) goes.2 in
+      let gated : Bool = gated_in (get world.files n) in
+      let others : Bool = list_any (λ name. gated_in (get world.files name)) ns in
+      finds_last (at_limit query.limit t.matched) query world n ns s o os t s' refl
+      (tried_finds query world tests n s o t tried (none_first s t s' rest none) below (λ is. fits (asks_head gated query.existing others is))) below complete (stops_here one ns os t s' goes.2)
+      (λ under more. goes_finds ns os t s' goes.2 more (none_second s t s' here none) under (λ is. fits (asks_rest gated query.existing others is)))
+
+-- ---- what is held back
+
+either_not : (a b : Bool) → (a || b) ≡ false → (a ≡ false) × (b ≡ false)
+either_not true b is = absurd cc
+either_not false b is = (refl, is)
+
+no_write : (o : Outcome) → is_write_fault o ≡ false → o ≡ outcomes.WriteFault → ⊥
+no_write outcomes.WriteFault is e = absurd cc
+no_write outcomes.Whole is e = absurd cc
+no_write outcomes.Missing is e = absurd cc
+no_write outcomes.NotADatabase is e = absurd cc
+no_write (outcomes.Damage d) is e = absurd cc
+no_write outcomes.ReadFault is e = absurd cc
+no_write outcomes.GateFault is e = absurd cc
+no_write outcomes.TooLarge is e = absurd cc
+no_write outcomes.LimitReached is e = absurd cc
+
+-- where no write failed, nothing is held back after the databases that was not before
+pub goes_on_out : (one : List ℕ → Standing → Outcome → Standing → Type 0) (names : List (List ℕ)) (os : List Outcome) (s s' : Standing) → ((name : List ℕ) (a : Standing) (o : Outcome) (b : Standing) → one name a o b → Moves a o b)
+    → Goes one names os s s' → list_any is_write_fault os ≡ false → s.held_back ≡ 0 → s'.held_back ≡ 0
+goes_on_out one [] [] s s' each goes none zero = sym (ap (λ (u : Standing). u.held_back) goes) ∙ zero
+goes_on_out one (n ∷ ns) [] s s' each goes none zero = sym (ap (λ (u : Standing). u.held_back) goes) ∙ zero
+goes_on_out one [] (o ∷ os) s s' each goes none zero = absurd goes
+goes_on_out one (n ∷ ns) (o ∷ os) s s' each goes none zero =
+    let moves = each n s o goes.0 goes.1 in
+    let not = either_not (is_write_fault o) (list_any is_write_fault os) none in
+    goes_on_out one ns os goes.0 s' each goes.2 not.1 (moves.passed_on (no_write o not.0))

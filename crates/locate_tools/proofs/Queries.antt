@@ -8,7 +8,7 @@ use Rattle.tool_words.specs.Locate.{LocateAsked}
 use Rattle.loc_outside.specs.Files.{Files}
 use Rattle.loc_outside.specs.Gates.{Tests}
 use Rattle.locate_tools.specs.Located.{databases_of, query_of}
-use Rattle.locate_tools.specs.Standing.{Standing, Goes, IsComplete, standing}
+use Rattle.locate_tools.specs.Standing.{Standing, Goes, IsComplete}
 use Rattle.locate_tools.specs.Tried.{Known, Tried}
 use Rattle.locate_tools.specs.Ran.{Concludes, LocateRan}
 use Rattle.locate_tools.specs.declared.answer.Cause.{Cause}
@@ -32,7 +32,7 @@ below_query q r is below = subst (λ (x : Query). IfSome x.limit (λ limit. 0 < 
 pub ran_by : (asked : LocateAsked) (k : Known) (s s' t : Standing) (os items : List Outcome) (cause : Cause) (q : Query) (names : List (List ℕ))
     → q ≡ query_of asked → names ≡ databases_of asked → os ≡ items
     → Goes (Tried asked.statistics q k) names items s t → IsComplete names items
-    → Concludes asked items t.matched t.taken s'.taken t.writes_failed s'.writes_failed cause
+    → Concludes asked items t.matched t.taken s'.taken t.held_back s'.held_back t.writes_failed s'.writes_failed cause
     → s'.given ≡ t.given → s'.asks ≡ t.asks → s'.reads_failed ≡ t.reads_failed → s'.gate_failed ≡ t.gate_failed
     → LocateRan asked k s s' os cause
 ran_by asked k s s' t os items cause q names query databases is goes complete concludes given asks reads gate =
@@ -48,8 +48,7 @@ ran_by asked k s s' t os items cause q names query databases is goes complete co
       gate_failed = gate;
     })
 
--- a run whose counter of steps stands at 0
-pub from_no_step : (asked : LocateAsked) (k : Known) (given asks matched n : ℕ) (taken : Option (List ℕ)) (reads gate writes : ℕ) (s' : Standing) (os : List Outcome) (cause : Cause)
-    → n ≡ 0 → LocateRan asked k (standing given asks matched n taken reads gate writes) s' os cause → LocateRan asked k (standing given asks matched 0 taken reads gate writes) s' os cause
-from_no_step asked k given asks matched n taken reads gate writes s' os cause none ran =
-    subst (λ (m : ℕ). LocateRan asked k (standing given asks matched m taken reads gate writes) s' os cause) none ran
+-- no name is tried where none is asked for
+pub none_of : {X : Type 0} (now : X → List ℕ) (xs : List X) (names : List (List ℕ)) → map now xs ≡ names → names ≡ [] → xs ≡ []
+none_of now [] names is none = refl
+none_of now (x ∷ xs) names is none = absurd cc

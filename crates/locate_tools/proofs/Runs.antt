@@ -17,11 +17,11 @@ use Rattle.locate_tools.specs.declared.answer.Cause.{Cause}
 use Rattle.locate_tools.specs.declared.answer.Cause.TheVariants as causes
 use Rattle.locate_tools.specs.Standing.{Standing, Goes, IsComplete}
 use Rattle.locate_tools.specs.Tried.{Known, known, Tried, TriedCount, TriedSearch, Moves, NoneFailed}
-use Rattle.locate_tools.specs.Located.{World, Locates, LocatesIn, lines_of, number_of, asks_nothing, databases_of, query_of, found, endings, ending_at, passing_at, cause_of}
+use Rattle.locate_tools.specs.Located.{World, Locates, LocatesIn, asks_gate, lines_of, number_of, asks_nothing, databases_of, query_of, found, endings, ending_at, passing_at, cause_of}
 use Rattle.locate_tools.specs.Ran.{LocateRan, LocateRun, Concludes, is_write_fault, is_read_fault, is_gate_fault, numbers, cause_after}
 use Rattle.locate_tools.specs.Counted.{CountsAll, statistics_at}
 use Rattle.locate_tools.proofs.CountingAll.{goes_gives}
-use Rattle.locate_tools.proofs.Finding.{Below, FindsAll, Later, none_first, rose_second, goes_finds, goes_later, moves_later, finds_none}
+use Rattle.locate_tools.proofs.Finding.{Below, FindsAll, Later, asks_some, goes_on_out, none_first, rose_second, goes_finds, goes_later, moves_later, finds_none}
 
 -- ---- how often calls failed
 
@@ -116,21 +116,22 @@ goes_nowhere one [] s s' none goes = goes
 goes_nowhere one (o ∷ os) s s' none goes = absurd goes
 
 -- what was found over the databases that are tried
-finds_by : (nothing : Bool) (query : Query) (world : World) (names : List (List ℕ)) (os : List Outcome) (s s' : Standing)
+finds_by : (nothing : Bool) (query : Query) (world : World) (tests : Option Tests) (names : List (List ℕ)) (os : List Outcome) (s s' : Standing)
     → (nothing ≡ false → Below query.limit s.matched)
-    → Goes (TriedSearch query (known (Some world.files) (Some world.tests))) (if nothing then [] else names) os s s' → IsComplete (if nothing then [] else names) os → NoneFailed s s'
+    → Goes (TriedSearch query (known (Some world.files) tests)) (if nothing then [] else names) os s s' → IsComplete (if nothing then [] else names) os → NoneFailed s s'
+    → (asks_some query world.files (if nothing then [] else names) ≡ true → tests ≡ Some world.tests)
     → FindsAll query world (if nothing then [] else names) s os s'
-finds_by true query world names os s s' below goes complete none =
+finds_by true query world tests names os s s' below goes complete none fits =
     let empty = no_outcome os complete in
-    subst (λ (x : List Outcome). FindsAll query world [] s x s') (sym empty) (finds_none query world s s' (goes_nowhere (TriedSearch query (known (Some world.files) (Some world.tests))) os s s' empty goes))
-finds_by false query world names os s s' below goes complete none = goes_finds query world names os s s' goes complete none (below refl)
+    subst (λ (x : List Outcome). FindsAll query world [] s x s') (sym empty) (finds_none query world s s' (goes_nowhere (TriedSearch query (known (Some world.files) tests)) os s s' empty goes))
+finds_by false query world tests names os s s' below goes complete none fits = goes_finds query world tests names os s s' goes complete none (below refl) fits
 
 -- exactly what the world says was printed and answered
-exact_of : (asked : LocateAsked) (world : World) (s s' : Standing) (os : List Outcome) (cause : Cause) → s.matched ≡ 0 → asked.statistics ≡ false
-    → LocateRan asked (known (Some world.files) (Some world.tests)) s s' os cause → NoneFailed s s' → Locates asked world s.taken s'.taken os cause
-exact_of asked world s s' os cause zero stat r none =
+exact_of : (asked : LocateAsked) (world : World) (tests : Option Tests) (s s' : Standing) (os : List Outcome) (cause : Cause) → s.matched ≡ 0 → asked.statistics ≡ false → (IsTrue (asks_gate asked world.files (databases_of asked)) → tests ≡ Some world.tests)
+    → LocateRan asked (known (Some world.files) tests) s s' os cause → NoneFailed s s' → Locates asked world s.taken s'.taken os cause
+exact_of asked world tests s s' os cause zero stat fits r none =
     let q = query_of asked in
-    let k = known (Some world.files) (Some world.tests) in
+    let k = known (Some world.files) tests in
     let rest : Later r.after s' = record { reads = omega (arith, r.reads_failed); gate = omega (arith, r.gate_failed); writes = r.concludes.later } in
     let before : NoneFailed s r.after = none_first s r.after s' rest none in
     let first : Later s r.after = goes_later (Tried asked.statistics q k) (databases_of asked) os s r.after (λ name a o b t. moves_later a o b (tried_moves asked.statistics q k name a o b t)) r.goes in
@@ -138,7 +139,8 @@ exact_of asked world s s' os cause zero stat r none =
     let goes : Goes (TriedSearch q k) (if asks_nothing asked.limit then [] else asked.databases) os s r.after =
     subst (λ (b : Bool). Goes (Tried b q k) (if not b && asks_nothing asked.limit then [] else asked.databases) os s r.after) stat r.goes in
     let complete : IsComplete (if asks_nothing asked.limit then [] else asked.databases) os = subst (λ (l : List (List ℕ)). IsComplete l os) names r.complete in
-    let finds = finds_by (asks_nothing asked.limit) q world asked.databases os s r.after (λ e. subst (λ (m : ℕ). Below asked.limit m) (sym zero) (asked_below asked.limit e)) goes complete before in
+    let finds = finds_by (asks_nothing asked.limit) q world tests asked.databases os s r.after (λ e. subst (λ (m : ℕ). Below asked.limit m) (sym zero) (asked_below asked.limit e)) goes complete before
+    (subst (λ (l : List (List ℕ)). asks_some q world.files l ≡ true → tests ≡ Some world.tests) names fits) in
     let unwritten : list_any is_write_fault os ≡ false =
     some_or_none (list_any is_write_fault os) (list_any is_write_fault os ≡ false)
     (λ e. absurd (before.2 (writes_rose (TriedSearch q k) _ os s r.after (λ name a o b t. t.answers.moves) goes e))) (λ e. e) in
@@ -197,13 +199,8 @@ run_nothing asked k s = record {
   write_fault = λ e. absurd cc;
   write_failed = λ e. absurd cc;
   number_only = λ e. absurd cc;
+  passed_on = λ none zero. zero;
 }
-
-known_by : (asked : LocateAsked) (k : Known) (world : World) (s s' : Standing) (os : List Outcome) (cause : Cause) → k.files ≡ Some world.files → k.tests ≡ Some world.tests
-    → LocateRan asked k s s' os cause → LocateRan asked (known (Some world.files) (Some world.tests)) s s' os cause
-known_by asked k world s s' os cause files tests r =
-    subst (λ (f : Option Files). LocateRan asked (known f (Some world.tests)) s s' os cause) files
-    (subst (λ (t : Option Tests). LocateRan asked (known k.files t) s s' os cause) tests r)
 
 pub run_done : (asked : LocateAsked) (k : Known) (s s' : Standing) (os : List Outcome) (cause : Cause) → s.matched ≡ 0 → (cause ≡ causes.OutOfMemory → ⊥) → LocateRan asked k s s' os cause → LocateRun asked k s s' os cause
 run_done asked k s s' os cause zero other r =
@@ -211,16 +208,20 @@ run_done asked k s s' os cause zero other r =
     let reads = reads_counted one (databases_of asked) os s r.after (tried_moves asked.statistics (query_of asked) k) r.goes in
     let gates = gates_counted one (databases_of asked) os s r.after (tried_moves asked.statistics (query_of asked) k) r.goes in
     let first : Later s r.after = goes_later one (databases_of asked) os s r.after (λ name a o b t. moves_later a o b (tried_moves asked.statistics (query_of asked) k name a o b t)) r.goes in
+    let wrote : cause ≡ causes.WriteFault → Rose s.writes_failed s'.writes_failed = λ e. some_or_none (list_any is_write_fault os) (Rose s.writes_failed s'.writes_failed)
+    (λ some. let rose = writes_rose one (databases_of asked) os s r.after (tried_moves asked.statistics (query_of asked) k) r.goes some in let late = r.concludes.later in omega (arith, rose, late))
+    (λ nowhere. let broke = r.concludes.breaks nowhere e in rose_second s.writes_failed r.after.writes_failed s'.writes_failed first.writes broke.1.0) in
     record {
       no_memory = λ e. absurd (other e);
       ran = λ o. r;
-      exact = λ o stat world files tests none. exact_of asked world s s' os cause zero stat (known_by asked k world s s' os cause files tests r) none;
+      exact = λ o stat world files fits none. exact_of asked world k.tests s s' os cause zero stat fits (subst (λ (f : Option Files). LocateRan asked (known f k.tests) s s' os cause) files r) none;
       counted = λ o stat files told none. counted_of asked files k.tests s s' os cause stat (subst (λ (f : Option Files). LocateRan asked (known f k.tests) s s' os cause) told r) none;
       read_faults = omega (arith, reads, r.reads_failed);
       gate_faults = omega (arith, gates, r.gate_failed);
-      write_fault = λ e. some_or_none (list_any is_write_fault os) (Rose s.writes_failed s'.writes_failed)
-          (λ some. let rose = writes_rose one (databases_of asked) os s r.after (tried_moves asked.statistics (query_of asked) k) r.goes some in let late = r.concludes.later in omega (arith, rose, late))
-          (λ nowhere. let broke = r.concludes.breaks nowhere e in rose_second s.writes_failed r.after.writes_failed s'.writes_failed first.writes broke.1.0);
+      write_fault = wrote;
       write_failed = λ some. (r.concludes.stops some).0;
       number_only = λ e nowhere. (r.concludes.breaks nowhere e).0;
+      passed_on = λ none zero. r.concludes.passed_on (λ e. none (wrote e)) (some_or_none (list_any is_write_fault os) (r.after.held_back ≡ 0)
+          (λ some. absurd (none (wrote (r.concludes.stops some).0)))
+          (λ nowhere. goes_on_out one (databases_of asked) os s r.after (tried_moves asked.statistics (query_of asked) k) r.goes nowhere zero));
     }

@@ -1,6 +1,6 @@
 -- What `locate` finds in a list of databases, where no call fails.
-use Rattle.std.specs.Prelude.{◌≡◌, ℕ, ◌+◌, Bool, false, ◌&&◌, not, nat_eq, List, [], ◌∷◌, ◌++◌, length, map, Option, Some, None, codes, decimal, if◌then◌else◌}
-use Rattle.std.specs.List.{flat_map}
+use Rattle.std.specs.Prelude.{◌≡◌, ℕ, ◌+◌, Bool, false, ◌&&◌, ◌||◌, not, nat_eq, List, [], ◌∷◌, ◌++◌, length, map, Option, Some, None, codes, decimal, if◌then◌else◌}
+use Rattle.std.specs.List.{flat_map, list_any}
 use Rattle.std.specs.FinMap.{get}
 use Rattle.std.specs.Io.KnownBytes.{Appends}
 use Rattle.loc_outside.specs.Files.{Files}
@@ -46,6 +46,15 @@ pub record World : Type 0 where
   pub tests : Tests
 
 -- ---- one database
+
+-- a database shows its paths only to those who may list their directories
+abbrev pub gated_in : Option (List ℕ) → Bool
+gated_in None = false
+gated_in (Some file) = is_gated file
+
+-- the gate is asked: existence is asked for, or one of the databases is gated
+abbrev pub asks_gate : LocateAsked → Files → List (List ℕ) → Bool
+asks_gate asked files names = asked.existing || list_any (λ name. gated_in (get files name)) names
 
 -- the paths of a database that are wanted, visible and there
 abbrev pub passing_in : Query → Tests → Option (List ℕ) → List PathAt

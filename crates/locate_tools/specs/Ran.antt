@@ -10,7 +10,7 @@ use Rattle.locate_engine.specs.declared.outcome.Outcome.{Outcome}
 use Rattle.locate_engine.specs.declared.outcome.Outcome.TheVariants as outcomes
 use Rattle.locate_tools.specs.Standing.{Standing, Goes, IsComplete}
 use Rattle.locate_tools.specs.Counted.{CountsAll}
-use Rattle.locate_tools.specs.Located.{World, Locates, query_of, databases_of, cause_of}
+use Rattle.locate_tools.specs.Located.{World, Locates, asks_gate, query_of, databases_of, cause_of}
 use Rattle.locate_tools.specs.Tried.{Known, NoneFailed, Tried}
 use Rattle.locate_tools.specs.declared.answer.Cause.{Cause}
 use Rattle.locate_tools.specs.declared.answer.Cause.TheVariants as causes
@@ -31,12 +31,13 @@ abbrev pub cause_after : LocateAsked → ℕ → Cause
 cause_after asked matched = if asked.statistics then causes.Done else cause_of asked.limit matched
 
 -- The end of a run, after its databases: a failed write ends it; else the number of paths is written where it is asked
--- for, and the cause is told by what was found, unless that write fails.
-pub record Concludes (asked : LocateAsked) (outcomes : List Outcome) (matched : ℕ) (taken taken' : Option (List ℕ)) (failed failed' : ℕ) (cause : Cause) : Type 0 where
+-- for and has gone out, and the cause is told by what was found, unless that write fails.
+pub record Concludes (asked : LocateAsked) (outcomes : List Outcome) (matched : ℕ) (taken taken' : Option (List ℕ)) (held held' failed failed' : ℕ) (cause : Cause) : Type 0 where
   pub later : failed ≤ failed'
   pub stops : list_any is_write_fault outcomes ≡ true → (cause ≡ causes.WriteFault) × (taken' ≡ taken)
   pub writes : list_any is_write_fault outcomes ≡ false → (cause ≡ causes.WriteFault → ⊥) → (cause ≡ cause_after asked matched) × Appends taken taken' (number_text asked matched)
   pub breaks : list_any is_write_fault outcomes ≡ false → cause ≡ causes.WriteFault → IsTrue (numbers asked) × (Rose failed failed' × AppendsPart taken taken' (number_text asked matched))
+  pub passed_on : (cause ≡ causes.WriteFault → ⊥) → held ≡ 0 → held' ≡ 0
 
 -- A run of `locate`: its databases were tried one after another, each from where the one before left the run, and then it
 -- ended.
@@ -44,7 +45,7 @@ pub record LocateRan (asked : LocateAsked) (known : Known) (s s' : Standing) (ou
   pub after : Standing
   pub goes : Goes (Tried asked.statistics (query_of asked) known) (databases_of asked) outcomes s after
   pub complete : IsComplete (databases_of asked) outcomes
-  pub concludes : Concludes asked outcomes after.matched after.taken s'.taken after.writes_failed s'.writes_failed cause
+  pub concludes : Concludes asked outcomes after.matched after.taken s'.taken after.held_back s'.held_back after.writes_failed s'.writes_failed cause
   pub given : s'.given ≡ after.given
   pub asks : s'.asks ≡ after.asks
   pub reads_failed : s'.reads_failed ≡ after.reads_failed
@@ -59,13 +60,14 @@ is_gate_fault outcomes.GateFault = true
 is_gate_fault outcome = false
 
 -- A run of `locate`, and when its answers come. Where memory ran out no database was tried. Where no call failed, exactly
--- what the files and the gate's tests say was printed and answered, or exactly the statistics of the files were written. No more outcomes tell of a failed read, or of a failed
--- gate, than such calls failed, up to the last count that can be told. A failed write is the cause where it is an outcome,
--- and else only where the number of paths is written.
+-- what the files and the gate's tests say was printed and answered, whatever the tests are where the gate is not asked; or
+-- exactly the statistics of the files were written. No more outcomes tell of a failed read, or of a failed gate, than such
+-- calls failed, up to the last count that can be told. A failed write is the cause where it is an outcome, and else only
+-- where the number of paths is written; where no write failed, nothing is held back that was not before.
 pub record LocateRun (asked : LocateAsked) (known : Known) (s s' : Standing) (outcomes : List Outcome) (cause : Cause) : Type 0 where
   pub no_memory : cause ≡ causes.OutOfMemory → outcomes ≡ []
   pub ran : (cause ≡ causes.OutOfMemory → ⊥) → LocateRan asked known s s' outcomes cause
-  pub exact : (cause ≡ causes.OutOfMemory → ⊥) → asked.statistics ≡ false → (world : World) → known.files ≡ Some world.files → known.tests ≡ Some world.tests → NoneFailed s s'
+  pub exact : (cause ≡ causes.OutOfMemory → ⊥) → asked.statistics ≡ false → (world : World) → known.files ≡ Some world.files → (IsTrue (asks_gate asked world.files (databases_of asked)) → known.tests ≡ Some world.tests) → NoneFailed s s'
       → Locates asked world s.taken s'.taken outcomes cause
   pub counted : (cause ≡ causes.OutOfMemory → ⊥) → asked.statistics ≡ true → (files : Files) → known.files ≡ Some files → NoneFailed s s'
       → CountsAll asked files s.taken s'.taken outcomes cause
@@ -74,3 +76,4 @@ pub record LocateRun (asked : LocateAsked) (known : Known) (s s' : Standing) (ou
   pub write_fault : cause ≡ causes.WriteFault → Rose s.writes_failed s'.writes_failed
   pub write_failed : list_any is_write_fault outcomes ≡ true → cause ≡ causes.WriteFault
   pub number_only : cause ≡ causes.WriteFault → list_any is_write_fault outcomes ≡ false → IsTrue (numbers asked)
+  pub passed_on : (Rose s.writes_failed s'.writes_failed → ⊥) → s.held_back ≡ 0 → s'.held_back ≡ 0

@@ -3,25 +3,25 @@ use Rattle.std.specs.Prelude.{◌≡◌, ℕ, Bool, true, false, List, [], ◌�
 use Rattle.locate_engine.specs.declared.outcome.Outcome.{Outcome}
 use Rattle.locate_engine.specs.declared.outcome.Outcome.TheVariants as outcomes
 
--- Where a run stands: how many bytes its reader has given, how often its gate was asked, how many paths were found, how
--- many steps it took to tell which are wanted, what standard output has taken, and how often the reader, the gate and
--- standard output have failed.
+-- Where a run stands: how many bytes its reader has given, how often its gate was asked, how many paths were found, what
+-- standard output has taken and how much of that it holds back, and how often the reader, the gate and standard output
+-- have failed.
 pub record Standing : Type 0 where
   pub given : ℕ
   pub asks : ℕ
   pub matched : ℕ
-  pub steps : ℕ
+  pub held_back : ℕ
   pub taken : Option (List ℕ)
   pub reads_failed : ℕ
   pub gate_failed : ℕ
   pub writes_failed : ℕ
 
 abbrev pub standing : ℕ → ℕ → ℕ → ℕ → Option (List ℕ) → ℕ → ℕ → ℕ → Standing
-standing given asks matched steps taken reads_failed gate_failed writes_failed = record {
+standing given asks matched held_back taken reads_failed gate_failed writes_failed = record {
   given = given;
   asks = asks;
   matched = matched;
-  steps = steps;
+  held_back = held_back;
   taken = taken;
   reads_failed = reads_failed;
   gate_failed = gate_failed;

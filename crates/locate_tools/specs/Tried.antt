@@ -6,9 +6,9 @@ use Rattle.loc_outside.specs.Causes.{Rose}
 use Rattle.loc_outside.specs.Files.{Files}
 use Rattle.loc_outside.specs.Gates.{Tests}
 use Rattle.loc_outside.specs.Outside.{AppendsPart}
-use Rattle.locate_engine.specs.Globs.{wanted, steps_on}
+use Rattle.locate_engine.specs.Globs.{wanted}
 use Rattle.locate_engine.specs.Searched.{Stand, stand, is_missing_or_read_fault}
-use Rattle.locate_engine.specs.Files.{SearchesFile, SearchesAll}
+use Rattle.locate_engine.specs.Files.{SearchesFile, SearchesAll, ReadsOnce}
 use Rattle.locate_engine.specs.Statistics.{Counts, ends_reading, no_stats, read_in}
 use Rattle.locate_engine.specs.declared.counting.Stats.{Stats}
 use Rattle.locate_engine.specs.declared.query.Query.{Query}
@@ -42,7 +42,8 @@ EndsAs ended outcome = (outcome ≡ ended) ⊎ (outcome ≡ outcomes.WriteFault)
 abbrev pub IsMissingOrFailed : Outcome → Type 0
 IsMissingOrFailed outcome = IsTrue (is_missing_or_read_fault outcome) ⊎ (outcome ≡ outcomes.WriteFault)
 
--- Counts rise, and an outcome that tells of a failed call comes only where such a call failed.
+-- Counts rise, and an outcome that tells of a failed call comes only where such a call failed. Unless a write failed, all
+-- that was written has gone out.
 pub record Moves (s : Standing) (outcome : Outcome) (s' : Standing) : Type 0 where
   pub given : s.given ≤ s'.given
   pub given_within : s'.given ≤ s.given + 2 ^ 40
@@ -54,11 +55,17 @@ pub record Moves (s : Standing) (outcome : Outcome) (s' : Standing) : Type 0 whe
   pub read_fault : outcome ≡ outcomes.ReadFault → Rose s.reads_failed s'.reads_failed
   pub gate_fault : outcome ≡ outcomes.GateFault → Rose s.gate_failed s'.gate_failed
   pub write_fault : outcome ≡ outcomes.WriteFault → Rose s.writes_failed s'.writes_failed
+  pub passed_on : (outcome ≡ outcomes.WriteFault → ⊥) → s'.held_back ≡ 0
 
--- what a search does that ends so with a file, and what it does where no call fails
+-- How much of a file was read, and nothing where there is none.
+abbrev pub ReadsIn : Option (List ℕ) → Standing → Outcome → Standing → Type 0
+ReadsIn None s outcome s' = s'.given ≡ s.given
+ReadsIn (Some file) s outcome s' = ReadsOnce file s.given s'.given outcome
+
+-- what a search does that ends so with a file, whose steps are not counted here, and what it does where no call fails
 abbrev pub Searched : Query → Option Tests → List ℕ → Standing → Outcome → Standing → Type 0
 Searched query tests file s outcome s' =
-    SearchesFile (wanted query) (steps_on query) query file tests s.given s'.given (stand_of s) (stand_of s') s.steps s'.steps outcome
+    SearchesFile (wanted query) (λ path. 0) query file tests s.given s'.given (stand_of s) (stand_of s') 0 0 outcome
 
 abbrev pub SearchedAll : Query → Option Tests → List ℕ → Standing → Outcome → Standing → Type 0
 SearchedAll query tests file s outcome s' = SearchesAll (wanted query) query file tests (stand_of s) (stand_of s') outcome
@@ -84,6 +91,7 @@ SearchedAs query known name s outcome s' =
 -- One database was searched, and what was printed was passed on.
 pub record TriedSearch (query : Query) (known : Known) (name : List ℕ) (s : Standing) (outcome : Outcome) (s' : Standing) : Type 0 where
   pub answers : SearchAnswers query known name s outcome s'
+  pub reads : IfSome known.files (λ files. ReadsIn (get files name) s outcome s')
   pub searched : SearchedAs query known name s outcome s'
   pub whole : IfSome known.files (λ files. IfSome (get files name) (λ file. NoneFailed s s' → SearchedAll query known.tests file s outcome s'))
   pub under : ends_run outcome ≡ false → IfSome query.limit (λ limit. s'.matched < limit)
@@ -115,7 +123,7 @@ pub record CountsText (files : Option Files) (name : List ℕ) (given given' fai
   pub ends : EndsAs ended outcome
   pub read_fault : ended ≡ outcomes.ReadFault → Rose failed failed'
   pub counts : IfSome files (λ files. IfSome (get files name) (λ file. (ended ≡ outcomes.ReadFault → given ≤ 2 ^ 63) → Counts (read_in file (given' - given) ended) stats ended))
-  pub absent : IfSome files (λ files. get files name ≡ None → stats ≡ no_stats)
+  pub absent : IfSome files (λ files. get files name ≡ None → (stats ≡ no_stats) × IsTrue (is_missing_or_read_fault ended))
   pub writes : WritesAs outcome taken taken' (text_after ended name stats)
 
 -- The statistics of one database were written and passed on. No path was found, and the gate was not asked.
@@ -123,6 +131,7 @@ pub record TriedCount (files : Option Files) (name : List ℕ) (s : Standing) (o
   pub moves : Moves s outcome s'
   pub missing : IfSome files (λ files. outcome ≡ outcomes.Missing → get files name ≡ None)
   pub absent : IfSome files (λ files. get files name ≡ None → IsMissingOrFailed outcome)
+  pub reads : IfSome files (λ files. ReadsIn (get files name) s outcome s')
   pub counted : CountsText files name s.given s'.given s.reads_failed s'.reads_failed s.taken s'.taken outcome
   pub reading : IsTrue (ends_reading outcome) ⊎ (outcome ≡ outcomes.WriteFault)
   pub unread : outcome ≡ outcomes.Missing → s'.given ≡ s.given

@@ -72,9 +72,10 @@ fn try_databases<R: Reader, G: Gate, P: BufferedSink, E: Sink, L: Ledger>(
     requires room { tally.old.matched ≤ 2 ^ 60 }
     requires below { asked.now.statistics ≡ false → 0 < length names.now → IfSome query.now.limit (λ limit. tally.old.matched < limit) }
     ensures goes { Goes (Tried asked.now.statistics query.now (known (R.files reader.old) (G.tests gate.old))) (map (λ t. t.now) names.now) outcomes.new.items
-        (standing (R.given reader.old) (G.asks gate.old) tally.old.matched steps.old (P.taken out.old) (R.faults reader.old) (G.faults gate.old) (P.faults out.old))
-        (standing (R.given reader.new) (G.asks gate.new) tally.new.matched steps.new (P.taken out.new) (R.faults reader.new) (G.faults gate.new) (P.faults out.new)) }
+        (standing (R.given reader.old) (G.asks gate.old) tally.old.matched (P.held_back out.old) (P.taken out.old) (R.faults reader.old) (G.faults gate.old) (P.faults out.old))
+        (standing (R.given reader.new) (G.asks gate.new) tally.new.matched (P.held_back out.new) (P.taken out.new) (R.faults reader.new) (G.faults gate.new) (P.faults out.new)) }
     ensures complete { IsComplete (map (λ t. t.now) names.now) outcomes.new.items }
+    ensures none { names.now ≡ [] → (reader.new ≡ reader.old) × (gate.new ≡ gate.old) }
     ensures told { TellsAs result (E.faults err.old) (E.faults err.new) (E.taken err.old) (E.taken err.new) (messages asked.now.quiet (map (λ t. t.now) names.now) outcomes.new.items) }
     ensures files { R.files reader.new ≡ R.files reader.old }
     ensures tests { G.tests gate.new ≡ G.tests gate.old }
@@ -141,6 +142,7 @@ fn has_write_fault(outcomes: &[Outcome]) -> bool
 fn put_total<P: BufferedSink>(out: &mut P, matched: u64) -> Result<(), Failed>
     ensures ok { OnOk result (Appends (P.taken out.old) (P.taken out.new) (decimal matched ++ 10 ∷ [])) }
     ensures part { OnErr result (AppendsPart (P.taken out.old) (P.taken out.new) (decimal matched ++ 10 ∷ [])) }
+    ensures passed_on { OnOk result (P.held_back out.new ≡ 0) }
     ensures cause { HasCause (P.faults out.old) (P.faults out.new) result }
     ensures kept { P.kept out.old out.new }
 {
@@ -155,7 +157,7 @@ fn conclude<P: BufferedSink>(
     matched: u64,
     out: &mut P,
 ) -> Cause
-    ensures concludes { Concludes (seen asked.now) outcomes.now matched (P.taken out.old) (P.taken out.new) (P.faults out.old) (P.faults out.new) result }
+    ensures concludes { Concludes (seen asked.now) outcomes.now matched (P.taken out.old) (P.taken out.new) (P.held_back out.old) (P.held_back out.new) (P.faults out.old) (P.faults out.new) result }
     ensures kept { P.kept out.old out.new }
     ensures remembered { result ≡ Cause.OutOfMemory → ⊥ }
 {
@@ -206,9 +208,10 @@ pub fn locate<R: Reader, G: Gate, P: BufferedSink, E: Sink, L: Ledger>(
     requires has_part { 0 < L.parts }
     ensures no_memory { result.cause ≡ Cause.OutOfMemory → (result.outcomes ≡ []) × (reader.new ≡ reader.old) × (gate.new ≡ gate.old) × (out.new ≡ out.old) × (err.new ≡ err.old) }
     ensures run { LocateRun (seen asked.now) (known (R.files reader.old) (G.tests gate.old))
-        (standing (R.given reader.old) (G.asks gate.old) 0 0 (P.taken out.old) (R.faults reader.old) (G.faults gate.old) (P.faults out.old))
-        (standing (R.given reader.new) (G.asks gate.new) 0 0 (P.taken out.new) (R.faults reader.new) (G.faults gate.new) (P.faults out.new))
+        (standing (R.given reader.old) (G.asks gate.old) 0 (P.held_back out.old) (P.taken out.old) (R.faults reader.old) (G.faults gate.old) (P.faults out.old))
+        (standing (R.given reader.new) (G.asks gate.new) 0 (P.held_back out.new) (P.taken out.new) (R.faults reader.new) (G.faults gate.new) (P.faults out.new))
         result.outcomes result.cause }
+    ensures none { databases_asked (seen asked.now) ≡ [] → (reader.new ≡ reader.old) × (gate.new ≡ gate.old) }
     ensures told { TellsAs result.silent (E.faults err.old) (E.faults err.new) (E.taken err.old) (E.taken err.new) (messages asked.now.quiet (databases_asked (seen asked.now)) result.outcomes) }
     ensures tool { (result.cause ≡ Cause.Usage → ⊥) }
     ensures files { R.files reader.new ≡ R.files reader.old }

@@ -65,10 +65,11 @@ fn run_locate<R: Reader, G: Gate, P: BufferedSink, E: Sink>(
 ) -> Ending
     ensures status { result.status ≡ status_of (Some Tool.Locate) result.cause }
     ensures usage { result.cause ≡ Cause.Usage → ⊥ }
+    ensures none { databases_of (locate_seen asked.now) ≡ [] → (reader.new ≡ reader.old) × (gate.new ≡ gate.old) }
     ensures unopened { result.cause ≡ Cause.OutOfMemory → (reader.new ≡ reader.old) × (gate.new ≡ gate.old) × (out.new ≡ out.old) }
     ensures run { LocateRun (locate_seen asked.now) (known (R.files reader.old) (G.tests gate.old))
-        (standing (R.given reader.old) (G.asks gate.old) 0 0 (P.taken out.old) (R.faults reader.old) (G.faults gate.old) (P.faults out.old))
-        (standing (R.given reader.new) (G.asks gate.new) 0 0 (P.taken out.new) (R.faults reader.new) (G.faults gate.new) (P.faults out.new))
+        (standing (R.given reader.old) (G.asks gate.old) 0 (P.held_back out.old) (P.taken out.old) (R.faults reader.old) (G.faults gate.old) (P.faults out.old))
+        (standing (R.given reader.new) (G.asks gate.new) 0 (P.held_back out.new) (P.taken out.new) (R.faults reader.new) (G.faults gate.new) (P.faults out.new))
         result.outcomes result.cause }
     ensures told { (Rose (E.faults err.old) (E.faults err.new) → ⊥) → Appends (E.taken err.old) (E.taken err.new) (messages asked.now.quiet (databases_of (locate_seen asked.now)) result.outcomes ++ cause_message (speaker_of_tool (Some Tool.Locate)) [] result.cause) }
     ensures told_part { AppendsPart (E.taken err.old) (E.taken err.new) (messages asked.now.quiet (databases_of (locate_seen asked.now)) result.outcomes ++ cause_message (speaker_of_tool (Some Tool.Locate)) [] result.cause) }
@@ -152,16 +153,18 @@ pub fn run<R: Reader, T: Tree, G: Gate, O: Output, P: BufferedSink, E: Sink>(
     ensures told { (Rose (E.faults err.old) (E.faults err.new) → ⊥) → Appends (E.taken err.old) (E.taken err.new) (told call.now result.outcomes result.cause) }
     ensures told_part { AppendsPart (E.taken err.old) (E.taken err.new) (told call.now result.outcomes result.cause) }
     ensures locate { IsLocate (request_of call.now) (λ asked. LocateRun asked (known (R.files reader.old) (G.tests gate.old))
-        (standing (R.given reader.old) (G.asks gate.old) 0 0 (P.taken out.old) (R.faults reader.old) (G.faults gate.old) (P.faults out.old))
-        (standing (R.given reader.new) (G.asks gate.new) 0 0 (P.taken out.new) (R.faults reader.new) (G.faults gate.new) (P.faults out.new))
+        (standing (R.given reader.old) (G.asks gate.old) 0 (P.held_back out.old) (P.taken out.old) (R.faults reader.old) (G.faults gate.old) (P.faults out.old))
+        (standing (R.given reader.new) (G.asks gate.new) 0 (P.held_back out.new) (P.taken out.new) (R.faults reader.new) (G.faults gate.new) (P.faults out.new))
         result.outcomes result.cause) }
     ensures locate_unopened { IsLocate (request_of call.now) (λ asked. result.cause ≡ Cause.OutOfMemory → (reader.new ≡ reader.old) × (gate.new ≡ gate.old) × (out.new ≡ out.old)) }
+    ensures locate_unasked { IsLocate (request_of call.now) (λ asked. databases_of asked ≡ [] → (reader.new ≡ reader.old) × (gate.new ≡ gate.old)) }
     ensures locate_alone { IsLocate (request_of call.now) (λ asked. (tree.new ≡ tree.old) × (output.new ≡ output.old)) }
     ensures updatedb { IsUpdatedb (request_of call.now) (λ asked. UpdatedbRun asked call.now.moment
         (record { files = R.files reader.old; given = R.given reader.old; reads_failed = R.faults reader.old; dirs = T.dirs tree.old; openings = T.openings tree.old; stats = T.stats tree.old; priced = T.priced tree.old; tree_failed = T.faults tree.old; held = O.held output.old; output_failed = O.faults output.old; taken = P.taken out.old; writes_failed = P.faults out.old })
         (record { files = R.files reader.new; given = R.given reader.new; reads_failed = R.faults reader.new; dirs = T.dirs tree.new; openings = T.openings tree.new; stats = T.stats tree.new; priced = T.priced tree.new; tree_failed = T.faults tree.new; held = O.held output.new; output_failed = O.faults output.new; taken = P.taken out.new; writes_failed = P.faults out.new })
         result.cause) }
     ensures updatedb_alone { IsUpdatedb (request_of call.now) (λ asked. (result.outcomes ≡ []) × (gate.new ≡ gate.old)) }
+    ensures passed_on { (Rose (P.faults out.old) (P.faults out.new) → ⊥) → P.held_back out.old ≡ 0 → P.held_back out.new ≡ 0 }
     ensures files { R.files reader.new ≡ R.files reader.old }
     ensures tree_kept { T.kept tree.old tree.new }
     ensures gate_kept { G.kept gate.old gate.new }

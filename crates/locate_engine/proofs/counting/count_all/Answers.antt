@@ -1,6 +1,7 @@
 use Rattle.std.proofs.Common.{Err}
 use Rattle.byte_feed.proofs.Draws.{draws_then}
 use Rattle.locate_engine.proofs.Counted.{counts_none, counts_before, drawn_fewer, not_missing, by_reading, nothing_fits, too_large_there, damaged_none}
+use Rattle.locate_engine.proofs.Opened.{all_read}
 use Rattle.locate_engine.proofs.counting.count_all.Goals as goal
 
 pub returns-in-Err-clause-counted : goal.returns-in-Err-clause-counted
@@ -27,3 +28,6 @@ returns-in-Ok-clause-counted g c =
 
 pub returns-in-Ok-clause-drawn : goal.returns-in-Ok-clause-drawn
 returns-in-Ok-clause-drawn g c = draws_then _ _ _ _ _ _ _ _ _ c.in-Ok.ensures.drawn c.count_paths.ensures.drawn
+
+pub returns-in-Err-clause-whole : goal.returns-in-Err-clause-whole
+returns-in-Err-clause-whole g c = rw c.outcome_at.ensures (all_read (Err c.in-Err.fault) _ _ c.in-Err.ensures.stops)

@@ -2,6 +2,7 @@ use Rattle.std.proofs.Common.{◌++◌, ◌∷◌, [], Bool, Ok, Err, refl, ap, 
 use Rattle.byte_feed.proofs.Draws.{draws_none, draws_then}
 use Rattle.byte_feed.proofs.Rests.{moved_none, moved_then, moved_same}
 use Rattle.locate_engine.proofs.Counted.{one_more, files_more, bytes_more, counts_end, no_database, not_missing, damaged_there, too_large_there, by_reading, fits_after}
+use Rattle.locate_engine.proofs.Opened.{all_read}
 use Rattle.locate_engine.proofs.counting.count_paths.Goals as goal
 
 pub paths-init : goal.paths-init
@@ -83,3 +84,9 @@ paths-preserved g c =
       src = g.met.S.Source.keeps_on _ _ _ c.paths.invariant.src c.in-Ok.ensures.kept;
       read = omega (arith, c.paths.invariant.read, c.in-Ok.ensures.later);
     }
+
+pub returns-in-Err-clause-whole : goal.returns-in-Err-clause-whole
+returns-in-Err-clause-whole g c = rw c.outcome_at.ensures (all_read (Err c.in-Err.fault) _ _ c.in-Err.ensures.stops)
+
+pub returns-then-not-more-clause-whole : goal.returns-then-not-more-clause-whole
+returns-then-not-more-clause-whole g c = λ _. (c.in-Ok.ensures.whole (ap (λ (b : Bool). Ok b) c.if-not-more.true)).1

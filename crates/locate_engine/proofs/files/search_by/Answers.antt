@@ -1,7 +1,7 @@
-use Rattle.std.proofs.Common.{arith, refl}
+use Rattle.std.proofs.Common.{◌≡◌, arith, refl}
 use Rattle.loc_outside.specs.Causes.{Rose}
 use Rattle.locate_engine.specs.Searched.{stand}
-use Rattle.locate_engine.proofs.Opened.{ended_unopened, exact_known, unopened_known}
+use Rattle.locate_engine.proofs.Opened.{ended_unopened, exact_known, found_there, once_found, once_unopened, unopened_known}
 use Rattle.locate_engine.proofs.files.search_by.Goals as goal
 
 pub returns-in-Err-clause-searched : goal.returns-in-Err-clause-searched
@@ -22,3 +22,14 @@ returns-in-Ok-Found-clause-exact g c =
 
 pub returns-in-Err-clause-ended : goal.returns-in-Err-clause-ended
 returns-in-Err-clause-ended g c = ended_unopened (g.M.Matcher.bound c.args.matcher.now) c.args.steps.now c.args.steps.now _ refl refl (g.R.Reader.files c.args.reader.now) c.args.name.now
+
+pub returns-in-Ok-Found-clause-read_once : goal.returns-in-Ok-Found-clause-read_once
+returns-in-Ok-Found-clause-read_once g c = rw c.in-Ok-Found.ensures.given at
+    (once_found (g.R.Reader.files c.args.reader.now) c.args.name.now _ _ _ c.search_open.result _ c.in-Ok-Found.field-0-is c.in-Ok-Found.ensures.opened c.search_open.ensures.read_once)
+
+pub returns-in-Err-clause-read_once : goal.returns-in-Err-clause-read_once
+returns-in-Err-clause-read_once g c = once_unopened (g.R.Reader.files c.args.reader.now) c.args.name.now _ _ _ c.open_file.ensures.given (λ e. absurd cc) (λ e. absurd cc)
+
+pub returns-in-Ok-Found-clause-read_none : goal.returns-in-Ok-Found-clause-read_none
+returns-in-Ok-Found-clause-read_none g c =
+    found_there (g.R.Reader.files c.args.reader.now) c.args.name.now _ (g.R.Source.given c.search_open.new.reader ≡ g.R.Source.given c.args.reader.now) _ c.in-Ok-Found.field-0-is c.in-Ok-Found.ensures.opened

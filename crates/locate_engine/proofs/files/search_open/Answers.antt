@@ -1,6 +1,7 @@
+use Rattle.std.proofs.Common.{Err}
 use Rattle.byte_feed.proofs.Draws.{draws_then}
 use Rattle.locate_engine.specs.Searched.{stand}
-use Rattle.locate_engine.proofs.Opened.{ended_begin, ended_searched, opened_fails, opened_searched, drawn_rises, drawn_within}
+use Rattle.locate_engine.proofs.Opened.{all_read, limit_read, once_opened, ended_begin, ended_searched, opened_fails, opened_searched, drawn_rises, drawn_within}
 use Rattle.locate_engine.proofs.files.search_open.Goals as goal
 
 pub returns-in-Err-clause-searched : goal.returns-in-Err-clause-searched
@@ -33,3 +34,11 @@ returns-in-Err-clause-ended g c = rw c.outcome_at.ensures (ended_begin (g.M.Matc
 
 pub returns-clause-ended : goal.returns-clause-ended
 returns-clause-ended g c = ended_searched (g.M.Matcher.bound c.args.matcher.now) c.args.steps.now c.search_paths.new.steps c.search_paths.result _ c.new-stream.ensures _ _ _ _ c.in-Ok.ensures.ok c.search_paths.ensures.ended
+
+pub returns-in-Err-clause-read_once : goal.returns-in-Err-clause-read_once
+returns-in-Err-clause-read_once g c = rw c.outcome_at.ensures
+    (once_opened _ c.new-stream.ensures _ _ _ _ _ _ c.in-Err.ensures.drawn (all_read (Err c.in-Err.fault) _ _ c.in-Err.ensures.stops) (limit_read (Err c.in-Err.fault) _ _ c.in-Err.ensures.stops))
+
+pub returns-clause-read_once : goal.returns-clause-read_once
+returns-clause-read_once g c =
+    once_opened _ c.new-stream.ensures _ _ _ _ _ _ (draws_then _ _ _ _ _ _ _ _ _ c.in-Ok.ensures.drawn c.search_paths.ensures.drawn) c.search_paths.ensures.whole c.search_paths.ensures.too_large

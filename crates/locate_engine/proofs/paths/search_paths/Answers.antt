@@ -1,4 +1,5 @@
-use Rattle.std.proofs.Common.{◌≡◌, ◌++◌, ◌∷◌, [], None, Ok, List, ℕ, Bool, true, false, ◌≤◌, ◌+◌, refl, sym, ap, ◌∙◌, append_assoc, arith}
+use Rattle.std.proofs.Common.{◌≡◌, ◌++◌, ◌∷◌, [], None, Ok, Err, List, ℕ, Bool, true, false, ◌≤◌, ◌+◌, refl, sym, ap, ◌∙◌, append_assoc, arith}
+use Rattle.byte_feed.specs.Feed.{reach}
 use Rattle.byte_feed.specs.Paths.{PathAt, after_paths, ToCome}
 use Rattle.byte_feed.proofs.Draws.{draws_none, draws_then}
 use Rattle.byte_feed.proofs.Rests.{moved_none, moved_then, moved_same}
@@ -7,6 +8,7 @@ use Rattle.locate_engine.specs.Searched.{Stand, stand, steps_over}
 use Rattle.locate_engine.specs.declared.asking.Step.TheVariants as steps
 use Rattle.locate_engine.proofs.Gone.{steps_one}
 use Rattle.locate_engine.proofs.Exits.{ended_mid, ended_end, told_if, takes_by, so_far_none, step_yes, step_no, searches_limit, searches_gate, searches_write, searches_end}
+use Rattle.locate_engine.proofs.Opened.{all_read, limit_read}
 use Rattle.locate_engine.proofs.paths.search_paths.Goals as goal
 
 -- one path more, after those before
@@ -62,14 +64,14 @@ returns-in-Err-clause-searched g c =
     rw c.outcome_at.ensures
     (λ one. told_if _ _ _ (λ told tells.
     searches_end (rule_of (g.M.Matcher.test c.args.matcher.now) c.args.query.now (g.P.PathStream.is_gated c.args.stream.now) told) (g.M.Matcher.bound c.args.matcher.now) _ _ _ _ c.paths.invariant.below
-    _ _ _ _ before.0 c.paths.block _ _ _ _ _ _ before.1 c.in-Err.ensures.err (before.3 told tells one)))
+    _ _ _ _ before.0 c.paths.block _ _ _ _ _ _ before.1 c.in-Err.ensures.err (before.3 told tells one) _))
 
 pub returns-then-not-more-clause-searched : goal.returns-then-not-more-clause-searched
 returns-then-not-more-clause-searched g c =
     let before = c.paths.invariant.gone in
     λ one. told_if _ _ _ (λ told tells.
     searches_end (rule_of (g.M.Matcher.test c.args.matcher.now) c.args.query.now (g.P.PathStream.is_gated c.args.stream.now) told) (g.M.Matcher.bound c.args.matcher.now) _ _ _ _ c.paths.invariant.below
-    _ _ _ _ before.0 c.paths.block _ _ _ _ _ _ before.1 (c.in-Ok.ensures.end (ap (λ (b : Bool). Ok b) c.if-not-more.true)) (before.3 told tells one))
+    _ _ _ _ before.0 c.paths.block _ _ _ _ _ _ before.1 (c.in-Ok.ensures.end (ap (λ (b : Bool). Ok b) c.if-not-more.true)) (before.3 told tells one) _)
 
 pub returns-in-LimitReached-clause-searched : goal.returns-in-LimitReached-clause-searched
 returns-in-LimitReached-clause-searched g c =
@@ -88,7 +90,8 @@ returns-in-LimitReached-clause-searched g c =
     let new : Stand = stand (g.K.Sink.taken c.take_path.new.out) c.take_path.new.tally.matched (g.G.Gate.asks c.take_path.new.gate) in
     let took = takes_by gated (g.P.PathStream.is_gated c.next_path.new.self) (g.G.Gate.tests c.args.gate.now) (g.G.Gate.tests c.paths.gate) c.args.query.now c.paths.block c.take_path.new.block p old new steps.LimitReached
     (c.in-Ok.ensures.gate ∙ c.paths.invariant.gated) c.paths.invariant.tests c.in-LimitReached.ensures.takes in
-    λ one. told_if _ _ _ (λ told tells. searches_limit (rule_of wanted c.args.query.now gated told) bound _ _ _ _ before.0 p c.paths.block _ old _ _ _ cost answer _ _ c.take_path.new.block new moved one (before.3 told tells one) (took wanted told tells) (c.in-LimitReached.ensures.limit refl))
+    let near : reach (g.P.PathStream.feed c.next_path.new.self) ≤ p.place + 20480 = omega (arith, c.in-Ok.ensures.near, c.in-Ok.ensures.held, (c.in-Ok.ensures.at c.if-not-more.false).0) in
+    λ one. told_if _ _ _ (λ told tells. searches_limit (rule_of wanted c.args.query.now gated told) bound _ _ _ _ before.0 p c.paths.block _ old _ _ _ cost answer _ _ c.take_path.new.block new moved one (before.3 told tells one) (took wanted told tells) (c.in-LimitReached.ensures.limit refl) _ near)
 
 pub returns-in-GateFault-clause-searched : goal.returns-in-GateFault-clause-searched
 returns-in-GateFault-clause-searched g c =
@@ -107,7 +110,7 @@ returns-in-GateFault-clause-searched g c =
     let new : Stand = stand (g.K.Sink.taken c.take_path.new.out) c.take_path.new.tally.matched (g.G.Gate.asks c.take_path.new.gate) in
     let took = takes_by gated (g.P.PathStream.is_gated c.next_path.new.self) (g.G.Gate.tests c.args.gate.now) (g.G.Gate.tests c.paths.gate) c.args.query.now c.paths.block c.take_path.new.block p old new steps.GateFault
     (c.in-Ok.ensures.gate ∙ c.paths.invariant.gated) c.paths.invariant.tests c.in-GateFault.ensures.takes in
-    λ one. told_if _ _ _ (λ told tells. searches_gate (rule_of wanted c.args.query.now gated told) bound _ _ _ _ before.0 p c.paths.block _ old _ _ _ cost answer _ _ new moved (before.3 told tells one) (took wanted told tells))
+    λ one. told_if _ _ _ (λ told tells. searches_gate (rule_of wanted c.args.query.now gated told) bound _ _ _ _ before.0 p c.paths.block _ old _ _ _ cost answer _ _ new moved (before.3 told tells one) (took wanted told tells) _)
 
 pub returns-in-WriteFault-clause-searched : goal.returns-in-WriteFault-clause-searched
 returns-in-WriteFault-clause-searched g c =
@@ -126,7 +129,7 @@ returns-in-WriteFault-clause-searched g c =
     let new : Stand = stand (g.K.Sink.taken c.take_path.new.out) c.take_path.new.tally.matched (g.G.Gate.asks c.take_path.new.gate) in
     let took = takes_by gated (g.P.PathStream.is_gated c.next_path.new.self) (g.G.Gate.tests c.args.gate.now) (g.G.Gate.tests c.paths.gate) c.args.query.now c.paths.block c.take_path.new.block p old new steps.WriteFault
     (c.in-Ok.ensures.gate ∙ c.paths.invariant.gated) c.paths.invariant.tests c.in-WriteFault.ensures.takes in
-    λ one. told_if _ _ _ (λ told tells. searches_write (rule_of wanted c.args.query.now gated told) bound _ _ _ _ before.0 p c.paths.block _ old _ _ _ cost answer _ _ new moved (before.3 told tells one) (took wanted told tells))
+    λ one. told_if _ _ _ (λ told tells. searches_write (rule_of wanted c.args.query.now gated told) bound _ _ _ _ before.0 p c.paths.block _ old _ _ _ cost answer _ _ new moved (before.3 told tells one) (took wanted told tells) _)
 
 pub paths-preserved-in-On : goal.paths-preserved-in-On
 paths-preserved-in-On g c =
@@ -270,3 +273,12 @@ returns-in-WriteFault-clause-ended g c =
     let dearer : c.wants.new.steps ≤ c.args.steps.now + steps_over bound (before.0 ++ p ∷ []) = omega (arith, before.2, cost, steps_one bound before.0 p) in
     let moved = moved_same _ _ _ _ _ _ _ _ (joined before.0 p) (moved_then _ _ _ _ _ _ _ _ _ _ _ before.1 found) in
     ended_mid bound (g.P.PathStream.to_come c.args.stream.now) _ (g.P.PathStream.feed c.args.stream.now) _ (before.0 ++ p ∷ []) (g.S.Source.left c.args.src.now) _ c.args.steps.now c.wants.new.steps dearer _ moved refl
+
+pub returns-in-Err-clause-whole : goal.returns-in-Err-clause-whole
+returns-in-Err-clause-whole g c = rw c.outcome_at.ensures (all_read (Err c.in-Err.fault) _ _ c.in-Err.ensures.stops)
+
+pub returns-in-Err-clause-too_large : goal.returns-in-Err-clause-too_large
+returns-in-Err-clause-too_large g c = rw c.outcome_at.ensures (limit_read (Err c.in-Err.fault) _ _ c.in-Err.ensures.stops)
+
+pub returns-then-not-more-clause-whole : goal.returns-then-not-more-clause-whole
+returns-then-not-more-clause-whole g c = λ _. (c.in-Ok.ensures.whole (ap (λ (b : Bool). Ok b) c.if-not-more.true)).1

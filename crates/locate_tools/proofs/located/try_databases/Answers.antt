@@ -32,6 +32,7 @@ loop-name-preserved g c =
     record {
       goes = goes_next (λ t. t.now) c.args.names.now c.loop-name.name-index _ _ _ _ _ _ _ c.loop-name.outcomes.items _ _ _ c.try_database-outcome.result _
           c.loop-name-test.true was.count was.files was.tests c.push_reserved.ensures.items was.goes done.tried;
+      none = λ first. absurd (omega (arith, first));
       on = on_next c.loop-name.outcomes.items c.try_database-outcome.result _ c.push_reserved.ensures.items was.on on;
       count = ap length c.push_reserved.ensures.items ∙ (length_push c.loop-name.outcomes.items c.try_database-outcome.result ∙ ap (λ n. n + 1) was.count);
       room = search (rules, c.push_reserved.ensures.capacity, was.room);
@@ -52,3 +53,9 @@ pub returns-clause-complete : goal.returns-clause-complete
 returns-clause-complete g c =
     let was = c.loop-name.invariant in
     complete_all _ c.loop-name.outcomes.items was.on (omega (arith, was.count, length-map c.args.names.now (λ t. t.now)))
+
+pub returns-then-ends_run-clause-none : goal.returns-then-ends_run-clause-none
+returns-then-ends_run-clause-none g c = λ none. absurd (omega (arith, c.loop-name-test.true, ap length none))
+
+pub returns-clause-none : goal.returns-clause-none
+returns-clause-none g c = λ none. c.loop-name.invariant.none (omega (arith, c.loop-name-test.false, ap length none))

@@ -9,8 +9,9 @@ use Rattle.locate_tools.proofs.located.try_databases.Given as goal
 abbrev pub invariant-loop-name : goal.invariant-loop-name
 invariant-loop-name g l = record {
   goes : Goes (Tried l.asked.statistics l.query (known (g.R.Reader.files l.initial.reader) (g.G.Gate.tests l.initial.gate))) (map (λ t. t.now) l.names) l.outcomes.items
-      (standing (g.R.Source.given l.initial.reader) (g.G.Gate.asks l.initial.gate) l.initial.tally.matched l.initial.steps (g.P.Sink.taken l.initial.out) (g.R.Source.faults l.initial.reader) (g.G.Gate.faults l.initial.gate) (g.P.Sink.faults l.initial.out))
-      (standing (g.R.Source.given l.reader) (g.G.Gate.asks l.gate) l.tally.matched l.steps (g.P.Sink.taken l.out) (g.R.Source.faults l.reader) (g.G.Gate.faults l.gate) (g.P.Sink.faults l.out));
+      (standing (g.R.Source.given l.initial.reader) (g.G.Gate.asks l.initial.gate) l.initial.tally.matched (g.P.BufferedSink.held_back l.initial.out) (g.P.Sink.taken l.initial.out) (g.R.Source.faults l.initial.reader) (g.G.Gate.faults l.initial.gate) (g.P.Sink.faults l.initial.out))
+      (standing (g.R.Source.given l.reader) (g.G.Gate.asks l.gate) l.tally.matched (g.P.BufferedSink.held_back l.out) (g.P.Sink.taken l.out) (g.R.Source.faults l.reader) (g.G.Gate.faults l.gate) (g.P.Sink.faults l.out));
+  none : l.name-index ≡ 0 → (l.reader ≡ l.initial.reader) × (l.gate ≡ l.initial.gate);
   on : GoOn l.outcomes.items;
   count : length l.outcomes.items ≡ l.name-index;
   room : length l.names ≤ vec_capacity l.outcomes;
