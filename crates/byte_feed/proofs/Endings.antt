@@ -75,7 +75,7 @@ ends_to f sh laws file small e =
       may = both.0;
     }
 
-ends_from : (f : Format) (file : List ℕ) → IsWhole f file → (contents f file).ending ≡ Ok tt
+pub ends_from : (f : Format) (file : List ℕ) → IsWhole f file → (contents f file).ending ≡ Ok tt
 unfolding rest_of
 ends_from f file h =
     let w = readable file in

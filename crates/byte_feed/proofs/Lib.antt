@@ -8,6 +8,7 @@ pub mod Fronts
 pub mod HeldBytes
 pub mod HeldTexts
 pub mod Numbers
+pub mod ReadBack
 pub mod Rests
 pub mod Steady
 pub mod Steps

@@ -1,6 +1,6 @@
 -- What a format is, and the front of a file: its longest list of whole items from byte 0, each keeping the rules after
 -- those before it.
-use Rattle.std.specs.Prelude.{◌≡◌, ℕ, zero, suc, ◌^◌, ◌≤◌, ◌<◌, slice_index, List, [], ◌∷◌, ◌++◌, length, take, Option, Result, Ok, Err, Bool, not, nat_le}
+use Rattle.std.specs.Prelude.{◌≡◌, ℕ, zero, suc, ◌^◌, ◌≤◌, ◌<◌, slice_index, List, [], ◌∷◌, ◌++◌, length, take, Option, Result, Ok, Err, Bool, true, not, nat_le}
 use Rattle.std.specs.List.{flat_map}
 use Rattle.byte_feed.specs.declared.damage.Stop.{Stop}
 
@@ -59,6 +59,13 @@ pub record BeginsWith (f : Format) (s : f.State) (w : Window) (items : List f.It
 pub record IsFront (f : Format) (file : List ℕ) (items : List f.Item) : Type 0 where
   pub begins : BeginsWith f f.begin (readable file) items
   pub longest : (others : List f.Item) → BeginsWith f f.begin (readable file) others → length others ≤ length items
+
+-- A whole database: its items keep the rules from the start, the format may end after them, and they are spelled in
+-- fewer bytes than the limit.
+pub record IsDatabase (f : Format) (items : List f.Item) : Type 0 where
+  pub rules : Follow f f.begin items true []
+  pub may_end : f.may_end (left_by f f.begin items) ≡ true
+  pub below : length (spelling f items) < limit
 
 -- ---- the same, one item after the other
 

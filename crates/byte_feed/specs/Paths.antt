@@ -27,6 +27,7 @@ damage_at place (Broken cause) = faults.Damage (record { place = place; cause = 
 abbrev pub fault_of : ℕ → Bool → Stop → DbFault
 fault_of place more s = if is_cut s && more then faults.TooLarge else damage_at place s
 
+-- The first case is never asked: an item that is whole belongs to the front, and behind the front none stands.
 abbrev pub end_by : {A : Type 0} → ℕ → Bool → Result A Stop → Ending
 end_by place more (Ok x) = Ok tt
 end_by place more (Err s) = Err (fault_of place more s)
@@ -116,6 +117,10 @@ contents f file = to_come f f.begin 0 0 (readable file)
 -- them.
 abbrev pub contents_of_part : (f : Format) → ℕ → List ℕ → ToCome
 contents_of_part f n file = to_come f f.begin 0 0 (record { bytes = take limit (take n file); more = true })
+
+-- what a file gives that is just these items and ends whole
+abbrev pub given_by : (f : Format) → List f.Item → ToCome
+given_by f items = as_paths f f.begin 0 0 (record { items = items; ending = Ok tt; place = length (spelling f items) })
 
 -- A file gives this list of paths, and ends whole.
 pub record GivesWhole (given : ToCome) (paths : List (List ℕ)) : Type 0 where

@@ -172,8 +172,9 @@ impl Feed {
         Some(byte)
     }
 
-    /// The next byte; `None` after the last, from then on whatever source is given. The source is asked only where no
-    /// byte is held, below the limit and before its end.
+    /// The next byte; `None` after the last, from then on whatever source is given. A call turns to the source only where
+    /// no byte is held, below the limit and before its end. How often it asks then is no clause, since a source counts no
+    /// calls: it asks once, for as many bytes as there is room for.
     #[inline(always)]
     pub fn next<S: Source>(&mut self, src: &mut S) -> Result<Option<u8>, FeedFault>
         ensures took { IfOk result (λ o. TookKnown self.old (S.left src.old) self.new (S.left src.new) (option_to_list o)) }
@@ -278,7 +279,8 @@ impl Feed {
     }
 
     /// How many of the next `want` bytes may be handed out; that many are held then. There are fewer where the source
-    /// ends or the limit comes before. The source is asked only where fewer are held, and not after its end.
+    /// ends or the limit comes before. A call turns to the source only where fewer are held, and not after its end. How
+    /// often it asks then is no clause: it asks until enough are held, each time for as many bytes as there is room for.
     #[inline(always)]
     pub fn look<S: Source>(&mut self, src: &mut S, want: usize) -> Result<usize, FeedFault>
         requires { want ≤ 4096 }

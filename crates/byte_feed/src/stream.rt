@@ -222,13 +222,16 @@ mod tests {
     use crate::{AllFault, Bytes, read_all};
     use loc_outside::Failed;
 
-    /// So many bytes that count up from 1, 0 after 255, at most `step` of them a call.
+    /// So many bytes that count up from 1, 0 after 255, at most `step` of them a call. It counts the calls, and keeps how
+    /// many bytes the last one asked for.
     #[derive(Drop)]
     struct Drip {
         next: u8,
         left: usize,
         step: usize,
         given: u64,
+        calls: u64,
+        asked: usize,
     }
 
     impl Source for Drip {
@@ -249,6 +252,8 @@ mod tests {
         ghost faults_below = { λ s. lit< tt };
 
         fn read(&mut self, into: &mut [u8]) -> Result<usize, Failed> {
+            self.calls = self.calls.saturating_add(1);
+            self.asked = into.len();
             let count = self.left.min(self.step).min(into.len());
             let mut next = self.next;
             for i in 0..count {
@@ -268,6 +273,8 @@ mod tests {
             left,
             step,
             given: 0,
+            calls: 0,
+            asked: 0,
         }
     }
 
@@ -285,6 +292,69 @@ mod tests {
             broken_at(LIMIT, Stop::Broken(DamageCause::Cut)),
             Break::TooLarge
         );
+    }
+
+    #[test]
+    fn next_asks_once_where_no_byte_is_held(rt: HostRuntime) {
+        // The source gives 3 bytes a call: a call of `next` is content with them.
+        let mut src = counting(8, 3);
+        let mut feed = Feed::new();
+        for (byte, calls) in [
+            (1, 1),
+            (2, 1),
+            (3, 1),
+            (4, 2),
+            (5, 2),
+            (6, 2),
+            (7, 3),
+            (8, 3),
+        ] {
+            assert_eq!(rt; feed.next(&mut src), Ok(Some(byte)));
+            assert_eq!(rt; (src.calls, src.asked), (calls, 4096));
+        }
+        // One call finds the end, and none comes after it.
+        assert_eq!(rt; feed.next(&mut src), Ok(None));
+        assert_eq!(rt; (src.calls, src.asked), (4, 4096));
+        assert_eq!(rt; feed.next(&mut src), Ok(None));
+        assert_eq!(rt; src.calls, 4);
+    }
+
+    #[test]
+    fn next_asks_for_a_whole_buffer_below_the_limit(rt: HostRuntime) {
+        let mut src = counting(5000, 4096);
+        let mut feed = Feed::new();
+        assert_eq!(rt; skip_bytes(&mut feed, &mut src, 4096), Ok(()));
+        assert_eq!(rt; (src.calls, src.asked), (1, 4096));
+        assert_eq!(rt; feed.next(&mut src), Ok(Some(1)));
+        assert_eq!(rt; (src.calls, src.asked), (2, 4096));
+        // Ten bytes below the limit it asks for these alone, and at the limit for none.
+        let mut src = counting(20, 4096);
+        let mut feed = Feed::new_at(1099511627766);
+        assert_eq!(rt; feed.next(&mut src), Ok(Some(1)));
+        assert_eq!(rt; (src.calls, src.asked), (1, 10));
+        assert_eq!(rt; skip_bytes(&mut feed, &mut src, 9), Ok(()));
+        assert_eq!(rt; feed.next(&mut src), Err(FeedFault::TooLarge));
+        assert_eq!(rt; src.calls, 1);
+    }
+
+    #[test]
+    fn look_asks_until_enough_are_held(rt: HostRuntime) {
+        // Six calls of 3 bytes hold 18; the last of them has room for 4,096 - 15.
+        let mut src = counting(20, 3);
+        let mut feed = Feed::new();
+        assert_eq!(rt; feed.look(&mut src, 16), Ok(16));
+        assert_eq!(rt; (src.calls, src.asked), (6, 4081));
+        for want in [16, 1, 0, 18] {
+            assert_eq!(rt; feed.look(&mut src, want), Ok(want));
+            assert_eq!(rt; src.calls, 6);
+        }
+        assert_eq!(rt; feed.next(&mut src), Ok(Some(1)));
+        assert_eq!(rt; src.calls, 6);
+        // 17 are held: two bytes more come, and then the end.
+        assert_eq!(rt; feed.look(&mut src, 20), Ok(19));
+        assert_eq!(rt; src.calls, 8);
+        assert_eq!(rt; feed.look(&mut src, 20), Ok(19));
+        assert_eq!(rt; src.calls, 8);
     }
 
     #[test]

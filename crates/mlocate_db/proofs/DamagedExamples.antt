@@ -1,13 +1,14 @@
--- How a small database ends, and others that differ from it in a few bytes, computed from the definitions.
-use Rattle.std.proofs.Common.{◌≡◌, ℕ, ◌++◌, List, [], ◌∷◌, take, drop, set, replicate, Ok, Err, refl}
+-- A small database and its items, how it ends, and how others end that differ from it in a few bytes, computed from the
+-- definitions.
+use Rattle.std.proofs.Common.{◌≡◌, ℕ, true, ◌++◌, List, [], ◌∷◌, take, drop, set, replicate, Ok, Err, refl}
 use Rattle.byte_feed.specs.declared.damage.DamageCause.{DamageCause}
 use Rattle.byte_feed.specs.declared.damage.DamageCause.TheVariants.{Cut, BadVersion, BadFlag, BadNanos, EmptyPath, BadKind, EmptyName, LongPath}
 use Rattle.byte_feed.specs.declared.damage.DbFault.TheVariants as faults
 use Rattle.byte_feed.specs.declared.damage.Stop.TheVariants.{Broken}
 use Rattle.byte_feed.specs.Field.{ended_at}
-use Rattle.byte_feed.specs.Front.{items_within, items_of}
+use Rattle.byte_feed.specs.Front.{front, items_within, items_of, spelling}
 use Rattle.byte_feed.specs.Paths.{Ending, rest_of, contents}
-use Rattle.mlocate_db.specs.Items.{fixed_at, header_at, numbers_at, head_at, entry_at, room_in, number, EndItem, mlocate}
+use Rattle.mlocate_db.specs.Items.{fixed_at, header_at, numbers_at, head_at, entry_at, room_in, number, Item, HeaderItem, HeadItem, EndItem, mlocate}
 
 -- the database of a root directory with nothing in it, of 91 bytes
 abbrev small : List ℕ
@@ -21,6 +22,18 @@ damaged place cause = Err (faults.Damage (record { place = place; cause = cause 
 
 abbrev no_database : Ending
 no_database = Err faults.NotADatabase
+
+-- its items
+abbrev small_items : List Item
+small_items = HeaderItem (record { version = 0; flag = true; padding = 0; root = 47 ∷ []; block = take 54 (drop 18 small) }) ∷ HeadItem (record { seconds = 1000; nanos = 0; device = 0; path = 47 ∷ [] }) ∷ EndItem ∷ []
+
+spelled_so : spelling mlocate small_items ≡ small
+unfolding number
+spelled_so = refl
+
+read_so : front mlocate small ≡ small_items
+unfolding items_of items_within ended_at fixed_at header_at numbers_at head_at entry_at number
+read_so = refl
 
 whole : ends small ≡ Ok tt
 unfolding rest_of items_of items_within ended_at fixed_at header_at numbers_at head_at entry_at number

@@ -102,7 +102,8 @@ pub record IsHead (h : Head) : Type 0 where
   pub path : IsText max_path h.path
 
 -- What the items so far leave: nothing was read; no directory is open, in a database of this version; or the directory
--- of this path is.
+-- of this path is. No rule looks at the version: it tells what the device field of a head means, a device in version 1
+-- and padding in version 0.
 pub data State : Type 0 where
   AtStart : State
   Between : (version : ℕ) → State
@@ -115,6 +116,7 @@ allowed (Inside version path) (EntryItem kind name) = IsText (room_in path) name
 allowed (Inside version path) EndItem = Unit {0}
 allowed s i = ⊥
 
+-- The first case is never asked: only a head and an end pass the version on, and neither may come at the start.
 abbrev pub version_in : State → ℕ
 version_in AtStart = 0
 version_in (Between version) = version

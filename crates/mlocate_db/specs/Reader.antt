@@ -87,7 +87,7 @@ path_found r = record { text = r.path; dir_len = r.dir_len; heads = r.heads; pla
 
 -- ---- a step
 
--- the item that a step read, by what the reader shows after it
+-- The item that a step read, by what the reader shows after it. The last case is never asked: `End` is no item.
 abbrev pub item_shown : Step → ReaderState → Item
 item_shown steps.Directory r = HeadItem (record { seconds = r.stamp.seconds; nanos = r.stamp.nanos; device = r.device; path = r.path })
 item_shown (steps.Entry kind) r = EntryItem kind (drop (length (in_directory (dir_of r))) r.path)

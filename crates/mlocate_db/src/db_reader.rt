@@ -106,11 +106,14 @@ impl DbReader {
         ensures between { OnOk result (self.new.stage ≡ Stage.Between) }
         ensures spent { is_fresh self.new.stage ≡ false }
         ensures stops { IfErr result (λ e. StopsAt self.new.feed self.new.place (Err e)) }
+        ensures at { OnOk result (self.new.feed.offset ≡ self.new.place) }
         ensures grows { OnOk result (self.old.place < self.new.place) }
         ensures stays { OnErr result (self.new.place ≡ self.old.place) }
         ensures bound { self.new.place ≤ 2 ^ 40 }
         ensures fresh { (self.old.place ≡ 0) × (self.old.heads ≡ 0) }
         ensures heads { self.new.heads ≡ self.old.heads }
+        ensures stamp { self.new.stamp ≡ self.old.stamp }
+        ensures device { self.new.device ≡ self.old.device }
         ensures drawn { Draws self.old.feed self.new.feed (S.given src.old) (S.given src.new) (S.left src.old) (S.left src.new) }
         ensures held { length self.new.feed.held ≤ 4096 }
         ensures reach { reach self.new.feed ≤ 2 ^ 40 }
@@ -138,11 +141,14 @@ impl DbReader {
         ensures between { OnOk result (self.new.stage ≡ Stage.Between) }
         ensures spent { is_fresh self.new.stage ≡ false }
         ensures stops { IfErr result (λ e. StopsAt self.new.feed self.new.place (Err e)) }
+        ensures at { OnOk result (self.new.feed.offset ≡ self.new.place) }
         ensures grows { OnOk result (self.old.place < self.new.place) }
         ensures stays { OnErr result (self.new.place ≡ self.old.place) }
         ensures bound { self.new.place ≤ 2 ^ 40 }
         ensures fresh { (self.old.place ≡ 0) × (self.old.heads ≡ 0) }
         ensures heads { self.new.heads ≡ self.old.heads }
+        ensures stamp { self.new.stamp ≡ self.old.stamp }
+        ensures device { self.new.device ≡ self.old.device }
         ensures drawn { Draws self.old.feed self.new.feed (S.given src.old) (S.given src.new) (S.left src.old) (S.left src.new) }
         ensures held { length self.new.feed.held ≤ 4096 }
         ensures reach { reach self.new.feed ≤ 2 ^ 40 }
@@ -174,6 +180,7 @@ impl DbReader {
         ensures live { is_live self.new.stage ≡ goes_on result }
         ensures whole { result ≡ Ok Step.End → StopsAt self.new.feed self.new.place (Ok tt) }
         ensures stops { IfErr result (λ e. StopsAt self.new.feed self.new.place (Err e)) }
+        ensures at { OnOk result (self.new.feed.offset ≡ self.new.place) }
         ensures near { self.new.feed.offset ≤ self.new.place + 4113 }
         ensures grows { IsTrue (goes_on result) → self.old.place < self.new.place }
         ensures stays { goes_on result ≡ false → self.new.place ≡ self.old.place }
@@ -204,6 +211,7 @@ impl DbReader {
         ensures live { is_live self.new.stage ≡ goes_on result }
         ensures whole { result ≡ Ok Step.End → (self.new.feed.held ≡ []) × (self.new.feed.ended ≡ true) }
         ensures broke { BreaksAt self.new.feed result }
+        ensures at { OnOk result (self.new.feed.offset ≡ self.new.place) }
         ensures near { self.new.feed.offset ≤ self.new.place + 4113 }
         ensures grows { IsTrue (goes_on result) → self.old.place < self.new.place }
         ensures stays { goes_on result ≡ false → self.new.place ≡ self.old.place }
@@ -234,6 +242,7 @@ impl DbReader {
         ensures live { is_live self.new.stage ≡ goes_on result }
         ensures whole { result ≡ Ok Step.End → (self.new.feed.held ≡ []) × (self.new.feed.ended ≡ true) }
         ensures broke { BreaksAt self.new.feed result }
+        ensures at { OnOk result (self.new.feed.offset ≡ self.new.place) }
         ensures near { self.new.feed.offset ≤ self.new.place + 4113 }
         ensures grows { IsTrue (goes_on result) → self.old.place < self.new.place }
         ensures stays { goes_on result ≡ false → self.new.place ≡ self.old.place }
@@ -276,6 +285,7 @@ impl DbReader {
         ensures live { is_live self.new.stage ≡ goes_on result }
         ensures whole { result ≡ Ok Step.End → (self.new.feed.held ≡ []) × (self.new.feed.ended ≡ true) }
         ensures broke { BreaksAt self.new.feed result }
+        ensures at { OnOk result (self.new.feed.offset ≡ self.new.place) }
         ensures near { self.new.feed.offset ≤ self.new.place + 4113 }
         ensures grows { IsTrue (goes_on result) → self.old.place < self.new.place }
         ensures stays { goes_on result ≡ false → self.new.place ≡ self.old.place }
@@ -341,14 +351,14 @@ impl DbReader {
         self.dir_len
     }
 
-    /// The time of the last directory, 0 before the first.
+    /// The time of the last directory whose head was read, 0 before the first.
     pub fn stamp(&self) -> Stamp
         ensures { result ≡ self.now.stamp }
     {
         self.stamp
     }
 
-    /// The number in the last head's device field: a device in version 1, and any padding in version 0.
+    /// The number in the last head's device field, 0 before the first: a device in version 1, any padding in version 0.
     pub fn device(&self) -> u32
         ensures { result ≡ self.now.device }
     {

@@ -3,8 +3,8 @@ ghost use Rattle.std.specs.Prelude.{◌≡◌, ◌<◌, ◌↔◌, ◌++◌, Lis
 ghost use Rattle.byte_feed.specs.declared.damage.DamageCause.{DamageCause};
 ghost use Rattle.byte_feed.specs.declared.damage.DamageCause.TheVariants.{Cut};
 ghost use Rattle.byte_feed.specs.declared.damage.Stop.TheVariants.{Broken};
-ghost use Rattle.byte_feed.specs.Front.{IsBytes, IsFront, front, left_by, limit, spelling};
-ghost use Rattle.byte_feed.specs.Paths.{contents};
+ghost use Rattle.byte_feed.specs.Front.{IsBytes, IsDatabase, IsFront, front, left_by, limit, spelling};
+ghost use Rattle.byte_feed.specs.Paths.{contents, given_by};
 ghost use Rattle.mlocate_db.specs.Items.{AtStart, Item, State, allowed, item_at, may_end, mlocate, spell};
 
 /// The front of a file is its longest list of whole items from byte 0 on, each allowed after those before it, and it is
@@ -22,4 +22,11 @@ pub fn ending_is_first_fault()
     ensures stays { (s : State) (bytes more : List ℕ) (cause : DamageCause) → (cause ≡ Cut → ⊥) → item_at s bytes ≡ Err (Broken cause) → item_at s (bytes ++ more) ≡ Err (Broken cause) }
     ensures cut { (s : State) (bytes : List ℕ) → item_at s bytes ≡ Err (Broken Cut) → (more : List ℕ) × IsBytes more × (item_at s (bytes ++ more) ≡ Err (Broken Cut) → ⊥) }
     ensures whole { (file : List ℕ) → IsBytes file → ((contents mlocate file).ending ≡ Ok tt) ↔ ((length file < limit) × (spelling mlocate (front mlocate file) ≡ file) × (may_end (left_by mlocate AtStart (front mlocate file)) ≡ true)) }
+{}
+
+/// A whole database that is written is read back: its items are the front of what they are spelled as, and the file gives
+/// what they give and ends whole.
+pub fn written_is_read_back()
+    ensures front { (items : List Item) → IsDatabase mlocate items → front mlocate (spelling mlocate items) ≡ items }
+    ensures given { (items : List Item) → IsDatabase mlocate items → contents mlocate (spelling mlocate items) ≡ given_by mlocate items }
 {}

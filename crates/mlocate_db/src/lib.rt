@@ -11,5 +11,5 @@ mod stream;
 mod tests;
 
 pub use db_reader::{DbReader, Step};
-pub use laws::{ending_is_first_fault, front_is_longest};
+pub use laws::{ending_is_first_fault, front_is_longest, written_is_read_back};
 pub use put::{put_directory, put_end, put_entry, put_header};

@@ -2,7 +2,7 @@
 ghost use Rattle.std.specs.Prelude.{◌≡◌, ◌<◌, ◌^◌, ◌∷◌, [], ◌++◌, length, OnOk, OnErr};
 ghost use Rattle.std.specs.Io.KnownBytes.{Appends};
 ghost use Rattle.loc_outside.specs.Causes.{HasCause};
-ghost use Rattle.loc_outside.specs.Outside.{AppendsPart};
+ghost use Rattle.loc_outside.specs.Outside.{AppendsPart, AppendsShort};
 ghost use Rattle.byte_feed.specs.Field.{IsText, ended, max_path};
 ghost use Rattle.mlocate_db.specs.Items.{HeaderItem, HeadItem, EntryItem, EndItem, spell, spell_fixed, spell_numbers, kind_byte};
 
@@ -11,7 +11,7 @@ use byteorder::{BigEndian, ByteOrder};
 use loc_outside::{Failed, Sink, put_all};
 use path_order::{Kind, Stamp};
 
-/// Writes the header of a database. After `Failed` a first part of it was taken.
+/// Writes the header of a database. After `Failed` a first part of it was taken, and not all.
 pub fn put_header<K: Sink>(
     sink: &mut K,
     version: u8,
@@ -24,6 +24,7 @@ pub fn put_header<K: Sink>(
     requires block { length block.now < 2 ^ 32 }
     ensures ok { OnOk result (Appends (K.taken sink.old) (K.taken sink.new) (spell (HeaderItem (record { version = version; flag = flag; padding = 0; root = root.now; block = block.now })))) }
     ensures err { OnErr result (AppendsPart (K.taken sink.old) (K.taken sink.new) (spell (HeaderItem (record { version = version; flag = flag; padding = 0; root = root.now; block = block.now })))) }
+    ensures short { OnErr result (AppendsShort (K.taken sink.old) (K.taken sink.new) (spell (HeaderItem (record { version = version; flag = flag; padding = 0; root = root.now; block = block.now })))) }
     ensures cause { HasCause (K.faults sink.old) (K.faults sink.new) result }
     ensures kept { K.kept sink.old sink.new }
 {
@@ -39,7 +40,7 @@ pub fn put_header<K: Sink>(
 }
 
 /// Writes the head of a directory with its time. The caller gives the device 0 in a database of version 0. After
-/// `Failed` a first part of it was taken.
+/// `Failed` a first part of it was taken, and not all.
 pub fn put_directory<K: Sink>(
     sink: &mut K,
     stamp: Stamp,
@@ -49,6 +50,7 @@ pub fn put_directory<K: Sink>(
     requires path { IsText max_path path.now }
     ensures ok { OnOk result (Appends (K.taken sink.old) (K.taken sink.new) (spell (HeadItem (record { seconds = stamp.seconds; nanos = stamp.nanos; device = device; path = path.now })))) }
     ensures err { OnErr result (AppendsPart (K.taken sink.old) (K.taken sink.new) (spell (HeadItem (record { seconds = stamp.seconds; nanos = stamp.nanos; device = device; path = path.now })))) }
+    ensures short { OnErr result (AppendsShort (K.taken sink.old) (K.taken sink.new) (spell (HeadItem (record { seconds = stamp.seconds; nanos = stamp.nanos; device = device; path = path.now })))) }
     ensures cause { HasCause (K.faults sink.old) (K.faults sink.new) result }
     ensures kept { K.kept sink.old sink.new }
 {
@@ -62,11 +64,12 @@ pub fn put_directory<K: Sink>(
 }
 
 /// Writes an entry of a directory. That the name is one and has room there is the caller's to see: one without room is
-/// read back as a path too long. After `Failed` a first part of it was taken.
+/// read back as a path too long. After `Failed` a first part of it was taken, and not all.
 pub fn put_entry<K: Sink>(sink: &mut K, kind: Kind, name: &[u8]) -> Result<(), Failed>
     requires name { IsText max_path name.now }
     ensures ok { OnOk result (Appends (K.taken sink.old) (K.taken sink.new) (spell (EntryItem kind name.now))) }
     ensures err { OnErr result (AppendsPart (K.taken sink.old) (K.taken sink.new) (spell (EntryItem kind name.now))) }
+    ensures short { OnErr result (AppendsShort (K.taken sink.old) (K.taken sink.new) (spell (EntryItem kind name.now))) }
     ensures cause { HasCause (K.faults sink.old) (K.faults sink.new) result }
     ensures kept { K.kept sink.old sink.new }
 {
@@ -74,10 +77,11 @@ pub fn put_entry<K: Sink>(sink: &mut K, kind: Kind, name: &[u8]) -> Result<(), F
     put_ended(sink, name)
 }
 
-/// Writes the end of a directory.
+/// Writes the end of a directory. After `Failed` nothing was taken.
 pub fn put_end<K: Sink>(sink: &mut K) -> Result<(), Failed>
     ensures ok { OnOk result (Appends (K.taken sink.old) (K.taken sink.new) (spell EndItem)) }
     ensures err { OnErr result (AppendsPart (K.taken sink.old) (K.taken sink.new) (spell EndItem)) }
+    ensures short { OnErr result (AppendsShort (K.taken sink.old) (K.taken sink.new) (spell EndItem)) }
     ensures cause { HasCause (K.faults sink.old) (K.faults sink.new) result }
     ensures kept { K.kept sink.old sink.new }
 {
@@ -87,7 +91,7 @@ pub fn put_end<K: Sink>(sink: &mut K) -> Result<(), Failed>
 /// Writes a text and its zero byte.
 fn put_ended<K: Sink>(sink: &mut K, text: &[u8]) -> Result<(), Failed>
     ensures ok { OnOk result (Appends (K.taken sink.old) (K.taken sink.new) (ended text.now)) }
-    ensures err { OnErr result (AppendsPart (K.taken sink.old) (K.taken sink.new) (ended text.now)) }
+    ensures short { OnErr result (AppendsShort (K.taken sink.old) (K.taken sink.new) (ended text.now)) }
     ensures cause { HasCause (K.faults sink.old) (K.faults sink.new) result }
     ensures kept { K.kept sink.old sink.new }
 {
