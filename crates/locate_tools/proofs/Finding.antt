@@ -328,10 +328,10 @@ no_write outcomes.LimitReached is e = absurd cc
 -- where no write failed, nothing is held back after the databases that was not before
 pub goes_on_out : (one : List ℕ → Standing → Outcome → Standing → Type 0) (names : List (List ℕ)) (os : List Outcome) (s s' : Standing) → ((name : List ℕ) (a : Standing) (o : Outcome) (b : Standing) → one name a o b → Moves a o b)
     → Goes one names os s s' → list_any is_write_fault os ≡ false → s.held_back ≡ 0 → s'.held_back ≡ 0
-goes_on_out one [] [] s s' each goes none zero = sym (ap (λ (u : Standing). u.held_back) goes) ∙ zero
-goes_on_out one (n ∷ ns) [] s s' each goes none zero = sym (ap (λ (u : Standing). u.held_back) goes) ∙ zero
-goes_on_out one [] (o ∷ os) s s' each goes none zero = absurd goes
-goes_on_out one (n ∷ ns) (o ∷ os) s s' each goes none zero =
+goes_on_out one [] [] s s' each goes none out = sym (ap (λ (u : Standing). u.held_back) goes) ∙ out
+goes_on_out one (n ∷ ns) [] s s' each goes none out = sym (ap (λ (u : Standing). u.held_back) goes) ∙ out
+goes_on_out one [] (o ∷ os) s s' each goes none out = absurd goes
+goes_on_out one (n ∷ ns) (o ∷ os) s s' each goes none out =
     let moves = each n s o goes.0 goes.1 in
     let not = either_not (is_write_fault o) (list_any is_write_fault os) none in
     goes_on_out one ns os goes.0 s' each goes.2 not.1 (moves.passed_on (no_write o not.0))

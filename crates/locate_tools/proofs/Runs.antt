@@ -199,7 +199,7 @@ run_nothing asked k s = record {
   write_fault = λ e. absurd cc;
   write_failed = λ e. absurd cc;
   number_only = λ e. absurd cc;
-  passed_on = λ none zero. zero;
+  passed_on = λ none out. out;
 }
 
 pub run_done : (asked : LocateAsked) (k : Known) (s s' : Standing) (os : List Outcome) (cause : Cause) → s.matched ≡ 0 → (cause ≡ causes.OutOfMemory → ⊥) → LocateRan asked k s s' os cause → LocateRun asked k s s' os cause
@@ -221,7 +221,7 @@ run_done asked k s s' os cause zero other r =
       write_fault = wrote;
       write_failed = λ some. (r.concludes.stops some).0;
       number_only = λ e nowhere. (r.concludes.breaks nowhere e).0;
-      passed_on = λ none zero. r.concludes.passed_on (λ e. none (wrote e)) (some_or_none (list_any is_write_fault os) (r.after.held_back ≡ 0)
+      passed_on = λ none out. r.concludes.passed_on (λ e. none (wrote e)) (some_or_none (list_any is_write_fault os) (r.after.held_back ≡ 0)
           (λ some. absurd (none (wrote (r.concludes.stops some).0)))
-          (λ nowhere. goes_on_out one (databases_of asked) os s r.after (tried_moves asked.statistics (query_of asked) k) r.goes nowhere zero));
+          (λ nowhere. goes_on_out one (databases_of asked) os s r.after (tried_moves asked.statistics (query_of asked) k) r.goes nowhere out));
     }
