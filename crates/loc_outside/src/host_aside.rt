@@ -162,10 +162,10 @@ impl Aside {
     /// Puts the file in the place of the one of this name, which gives it its owner and mode. What was written is on the
     /// disk before, so a power cut leaves the old file or the whole new one.
     pub(crate) fn replace(&self, rt: HostRuntime, name: &str) -> io::Result<()> {
+        self.file.sync_all()?;
         if let Some(old) = replaced(rt, name)? {
             set_access(&self.file, &old)?;
         }
-        self.file.sync_all()?;
         if !self.is_there(rt) {
             return Err(io::Error::from(ErrorKind::NotFound));
         }
