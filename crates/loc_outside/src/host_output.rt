@@ -4,63 +4,102 @@ ghost use Rattle.std.proofs.Common.{refl, ◌∙◌};
 ghost use Rattle.loc_outside.specs.Causes.{last_count, stays_below};
 
 use crate::host::fault;
+use crate::host_aside::Aside;
 use crate::{Failed, Output, Sink};
-use std::fs::{File, OpenOptions};
+use std::fs::File;
 use std::io::{BufWriter, Write};
 use std::marker::Model;
-use std::{fs, io, mem};
+use std::{io, mem};
 
-/// A file that is written beside the one that it is to replace.
+/// A name that was begun, and the file that is to get it.
 #[derive(Drop)]
 struct Pending {
     name: String,
-    aside: String,
-    file: BufWriter<File>,
+    aside: Aside,
+    writer: BufWriter<File>,
 }
 
-/// Opens a file to be written. That it is emptied comes last: where this fails, a file that was there is as it was.
-fn open_empty(rt: HostRuntime, name: &str) -> io::Result<BufWriter<File>> {
-    let mut options = OpenOptions::new();
-    options.write(true).create(true).truncate(false);
-    let file = BufWriter::new(rt.alloc(), options.open(&rt, name)?)?;
-    file.get_ref().set_len(0)?;
-    Ok(file)
+/// A writer of the file, which is emptied last: where this fails, it is as it was.
+fn empty_writer(rt: HostRuntime, aside: &Aside) -> io::Result<BufWriter<File>> {
+    let writer = BufWriter::new(rt.alloc(), aside.handle()?)?;
+    writer.get_ref().set_len(0)?;
+    Ok(writer)
 }
 
-/// Makes an empty file beside the one of this name.
-fn create(rt: HostRuntime, name: &str) -> io::Result<Pending> {
-    let mut aside = String::from_str(rt.alloc(), name)?;
-    aside.push_str(".new")?;
+/// Lets go of a writer, without what it holds back.
+fn let_go(writer: BufWriter<File>) {
+    let (_file, _held_back) = writer.into_parts();
+}
+
+/// Makes the file that is to get this name.
+fn make(rt: HostRuntime, name: &str) -> io::Result<Pending> {
+    let mut path = String::from_str(rt.alloc(), name)?;
+    path.push_str(".new")?;
     let name = String::from_str(rt.alloc(), name)?;
-    let file = open_empty(rt, aside.as_str())?;
-    Ok(Pending { name, aside, file })
+    let aside = Aside::make(rt, path, &name)?;
+    match empty_writer(rt, &aside) {
+        Ok(writer) => Ok(Pending {
+            name,
+            aside,
+            writer,
+        }),
+        Err(error) => {
+            aside.remove(rt);
+            Err(error)
+        }
+    }
+}
+
+/// Empties a file that was begun, and what is held back of it.
+fn empty(rt: HostRuntime, pending: &mut Pending) -> io::Result<()> {
+    let writer = empty_writer(rt, &pending.aside)?;
+    let_go(mem::replace(&mut pending.writer, writer));
+    Ok(())
+}
+
+/// Lets go of what was begun, and removes its file.
+fn discard(rt: HostRuntime, pending: Pending) {
+    let Pending {
+        name: _,
+        aside,
+        writer,
+    } = pending;
+    let_go(writer);
+    aside.remove(rt);
+}
+
+/// Begins a name. The file in hand is used again where the name is its own.
+fn begin(rt: HostRuntime, pending: &mut Option<Pending>, name: &str) -> io::Result<()> {
+    if let Some(held) = pending {
+        if held.name.as_str() == name && held.aside.is_there(rt) {
+            return empty(rt, held);
+        }
+    }
+    let begun = make(rt, name)?;
+    if let Some(old) = mem::replace(pending, Some(begun)) {
+        discard(rt, old);
+    }
+    Ok(())
 }
 
 /// Writes out what is held back, and puts the file in the place of the one that it is to replace.
 fn store(rt: HostRuntime, pending: &mut Pending) -> io::Result<()> {
-    pending.file.flush()?;
-    fs::rename(&rt, &pending.aside, &pending.name)
-}
-
-/// Lets go of a file, without what is held back of it, and removes it unless it goes by the name `kept`.
-fn discard(rt: HostRuntime, pending: Pending, kept: &str) {
-    let Pending {
-        name: _,
-        aside,
-        file,
-    } = pending;
-    let (_file, _held_back) = file.into_parts();
-    if aside.as_str() != kept {
-        let _ = fs::remove_file(&rt, &aside);
-    }
+    pending.writer.flush()?;
+    pending.aside.replace(rt, &pending.name)
 }
 
 /// The host's files, to be written. A contract sees the counts of names begun and of faults.
 ///
-/// The bytes of a name go through a buffer to a file of that name with `.new` added. A commit writes the buffer out and
-/// renames the file, so the file of that name is the old one or the new one at any time. What was begun and not committed
-/// is removed when another name is begun or the output is dropped. A file `.new` that was there before is written over.
-/// A name whose last part has more than 251 bytes can't be begun, since a part has at most 255.
+/// The bytes of a name go through a buffer to a file of that name with `.new` added, which this output makes and locks. A
+/// commit writes the buffer out, gives the file the owner and the mode of the one that it is to replace, syncs it and
+/// renames it, so the file of that name is the old one or the whole new one at any time. A new file has mode 0644, less
+/// the umask.
+///
+/// While one output has the file `.new`, no other can begin the name. What a run that was killed left there is removed.
+/// What is there and is no regular file, or has another name, is refused, and nothing is written to it.
+///
+/// What was begun and not committed is removed when another name is begun or the output is dropped. A name whose last part
+/// has more than 251 bytes can't be begun, since a part has at most 255.
 pub struct HostOutput {
     rt: HostRuntime,
     pending: Option<Pending>,
@@ -77,7 +116,7 @@ impl Drop for HostOutput {
             faults: _,
         } = self;
         if let Some(pending) = pending {
-            discard(rt, pending, "");
+            discard(rt, pending);
         }
     }
 }
@@ -119,7 +158,7 @@ impl Sink for HostOutput {
 
     fn write(&mut self, piece: &[u8]) -> Result<usize, Failed> {
         let answer = match &mut self.pending {
-            Some(pending) => pending.file.write(piece).ok(),
+            Some(pending) => pending.writer.write(piece).ok(),
             None => None,
         };
         match answer {
@@ -141,13 +180,9 @@ impl Output for HostOutput {
     ghost keeps_held = { λ h k bytes kept grows. refl };
 
     fn begin(&mut self, name: &str) -> Result<(), Failed> {
-        let Ok(pending) = create(self.rt, name) else {
+        let Ok(()) = begin(self.rt, &mut self.pending, name) else {
             return Err(fault(&mut self.faults));
         };
-        if let Some(old) = mem::replace(&mut self.pending, None) {
-            discard(self.rt, old, pending.aside.as_str());
-        }
-        self.pending = Some(pending);
         self.begins = self.begins.saturating_add(1);
         Ok(())
     }
@@ -162,61 +197,5 @@ impl Output for HostOutput {
         }
         self.pending = None;
         Ok(())
-    }
-}
-
-#[cfg(test)]
-mod tests {
-    use super::*;
-    use crate::put_all;
-    use std::process;
-    use std::test::Fail;
-
-    // A name of this process alone.
-    fn own_name(rt: HostRuntime, end: &str) -> Result<String, Fail> {
-        Ok(format!(in rt.alloc(); "/tmp/host_output_{}_{end}", process::id(rt.process()))?)
-    }
-
-    #[test]
-    fn a_commit_replaces_the_file(rt: HostRuntime) -> Result<(), Fail> {
-        let name = own_name(rt, "a")?;
-        let aside = own_name(rt, "a.new")?;
-        let mut output = HostOutput::new(rt);
-        output.begin(&name)?;
-        put_all(&mut output, b"whole")?;
-        assert!(rt; fs::read(&rt, &name).is_err());
-        output.commit()?;
-        assert_eq!(rt; fs::read(&rt, &name)?.as_slice(), b"whole".as_slice());
-        assert!(rt; fs::read(&rt, &aside).is_err());
-        fs::remove_file(&rt, &name)?;
-        Ok(())
-    }
-
-    #[test]
-    fn nothing_stays_of_what_was_not_committed(rt: HostRuntime) -> Result<(), Fail> {
-        let name = own_name(rt, "b")?;
-        let aside = own_name(rt, "b.new")?;
-        let mut output = HostOutput::new(rt);
-        output.begin(&name)?;
-        put_all(&mut output, b"first")?;
-        output.begin(&name)?;
-        put_all(&mut output, b"x")?;
-        output.commit()?;
-        assert_eq!(rt; fs::read(&rt, &name)?.as_slice(), b"x".as_slice());
-        output.begin(&name)?;
-        put_all(&mut output, b"a part")?;
-        drop(output);
-        assert!(rt; fs::read(&rt, &aside).is_err());
-        assert_eq!(rt; fs::read(&rt, &name)?.as_slice(), b"x".as_slice());
-        fs::remove_file(&rt, &name)?;
-        Ok(())
-    }
-
-    #[test]
-    fn calls_that_fail(rt: HostRuntime) {
-        let mut output = HostOutput::new(rt);
-        assert_eq!(rt; output.begin("/nowhere/at/all"), Err(Failed));
-        assert_eq!(rt; output.write(b"x"), Err(Failed));
-        assert_eq!(rt; output.commit(), Err(Failed));
     }
 }

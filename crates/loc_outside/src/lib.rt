@@ -6,9 +6,12 @@ mod failing;
 mod gate;
 mod gathering;
 mod host;
+mod host_aside;
 mod host_gate;
 mod host_out;
 mod host_output;
+#[cfg(test)]
+mod host_output_tests;
 mod host_tree;
 mod keyed;
 mod mem_files;
