@@ -5,6 +5,7 @@ pub mod OutputLaws
 pub mod Trees
 pub mod Gates
 pub mod Outside
+pub mod Snapshot
 pub mod Stored
 pub mod Memory
 pub mod Edits

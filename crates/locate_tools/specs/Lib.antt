@@ -1,4 +1,5 @@
 pub mod Calls
+pub mod Does
 pub mod Messages
 pub mod Told
 pub mod Statuses

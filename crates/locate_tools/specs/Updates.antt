@@ -7,6 +7,7 @@ use Rattle.loc_outside.specs.Causes.{Rose}
 use Rattle.loc_outside.specs.Files.{Files}
 use Rattle.loc_outside.specs.Held.{Held}
 use Rattle.loc_outside.specs.Outside.{AppendsPart}
+use Rattle.loc_outside.specs.Snapshot.{Snapshot}
 use Rattle.loc_outside.specs.Trees.{Dirs}
 use Rattle.tool_words.specs.Updatedb.{UpdatedbAsked}
 use Rattle.tree_scan.specs.Blocks.{scan_text, echo_text}
@@ -36,10 +37,7 @@ cause_of faults.TooManyNames = causes.TooManyNames
 cause_of faults.TooManyDirectories = causes.TooManyDirectories
 cause_of faults.OutOfMemory = causes.OutOfMemory
 
--- What a run knows of the outside: of the reader the files, where they are told, how many bytes it gave and how often it
--- failed; of the tree the directories, where they are told, how often directories were opened and asked for their times,
--- which of these questions are counted, and how often it failed; what the output holds and what standard output has taken,
--- where it is told, and how often each failed.
+-- The part of a snapshot that `updatedb` sees: all but the gate and standard error.
 pub record Around : Type 0 where
   pub files : Option Files
   pub given : ℕ
@@ -50,9 +48,29 @@ pub record Around : Type 0 where
   pub priced : List ℕ → Bool
   pub tree_failed : ℕ
   pub held : Option Held
+  pub begins : ℕ
   pub output_failed : ℕ
   pub taken : Option (List ℕ)
+  pub held_back : ℕ
   pub writes_failed : ℕ
+
+abbrev pub around_in : Snapshot → Around
+around_in o = record {
+  files = o.files;
+  given = o.given;
+  reads_failed = o.reads_failed;
+  dirs = o.dirs;
+  openings = o.openings;
+  stats = o.stats;
+  priced = o.priced;
+  tree_failed = o.tree_failed;
+  held = o.held;
+  begins = o.begins;
+  output_failed = o.output_failed;
+  taken = o.taken;
+  held_back = o.held_back;
+  writes_failed = o.writes_failed;
+}
 
 -- what holds of the directories and of the plan of the scan, where both are told and the settings are accepted
 abbrev pub Planned : UpdatedbAsked → Around → (Dirs → Plan → Type 0) → Type 0
@@ -62,14 +80,16 @@ Planned asked a holds = Told a.files a.dirs asked holds
 abbrev pub EndsFor : Cause → (UpdateFault → Bool) → Type 0
 EndsFor cause kind = (fault : UpdateFault) × (cause ≡ cause_of fault) × IsTrue (kind fault)
 
--- the tree was asked nothing, the output holds what it held, and nothing was written
+-- the tree was asked nothing, the output holds what it held and has begun no name, and nothing was written or passed on
 pub record Untouched (a a' : Around) : Type 0 where
   pub openings : a'.openings ≡ a.openings
   pub stats : a'.stats ≡ a.stats
   pub tree_failed : a'.tree_failed ≡ a.tree_failed
   pub held : a'.held ≡ a.held
+  pub begins : a'.begins ≡ a.begins
   pub output_failed : a'.output_failed ≡ a.output_failed
   pub taken : a'.taken ≡ a.taken
+  pub held_back : a'.held_back ≡ a.held_back
   pub writes_failed : a'.writes_failed ≡ a.writes_failed
 
 -- After Done: the stored files are those at entry, with the complete scan under the name of the output; with `verbose`, the

@@ -110,8 +110,8 @@ fn run_updatedb<R: Reader, T: Tree, O: Output, P: BufferedSink, E: Sink>(
     ensures usage { result.cause ≡ Cause.Usage → ⊥ }
     ensures outcomes { result.outcomes ≡ [] }
     ensures run { UpdatedbRun (updatedb_seen asked.now) now
-        (record { files = R.files reader.old; given = R.given reader.old; reads_failed = R.faults reader.old; dirs = T.dirs tree.old; openings = T.openings tree.old; stats = T.stats tree.old; priced = T.priced tree.old; tree_failed = T.faults tree.old; held = O.held output.old; output_failed = O.faults output.old; taken = P.taken out.old; writes_failed = P.faults out.old })
-        (record { files = R.files reader.new; given = R.given reader.new; reads_failed = R.faults reader.new; dirs = T.dirs tree.new; openings = T.openings tree.new; stats = T.stats tree.new; priced = T.priced tree.new; tree_failed = T.faults tree.new; held = O.held output.new; output_failed = O.faults output.new; taken = P.taken out.new; writes_failed = P.faults out.new })
+        (record { files = R.files reader.old; given = R.given reader.old; reads_failed = R.faults reader.old; dirs = T.dirs tree.old; openings = T.openings tree.old; stats = T.stats tree.old; priced = T.priced tree.old; tree_failed = T.faults tree.old; held = O.held output.old; begins = O.begins output.old; output_failed = O.faults output.old; taken = P.taken out.old; held_back = P.held_back out.old; writes_failed = P.faults out.old })
+        (record { files = R.files reader.new; given = R.given reader.new; reads_failed = R.faults reader.new; dirs = T.dirs tree.new; openings = T.openings tree.new; stats = T.stats tree.new; priced = T.priced tree.new; tree_failed = T.faults tree.new; held = O.held output.new; begins = O.begins output.new; output_failed = O.faults output.new; taken = P.taken out.new; held_back = P.held_back out.new; writes_failed = P.faults out.new })
         result.cause }
     ensures told { (Rose (E.faults err.old) (E.faults err.new) → ⊥) → Appends (E.taken err.old) (E.taken err.new) (cause_message (speaker_of_tool (Some Tool.Updatedb)) asked.now.root.now result.cause) }
     ensures told_part { AppendsPart (E.taken err.old) (E.taken err.new) (cause_message (speaker_of_tool (Some Tool.Updatedb)) asked.now.root.now result.cause) }
@@ -146,31 +146,23 @@ pub fn run<R: Reader, T: Tree, G: Gate, O: Output, P: BufferedSink, E: Sink>(
     out: &mut P,
     err: &mut E,
 ) -> Ending
-    ensures status { result.status ≡ status_of (tool_called call.now) result.cause }
-    ensures usage { result.cause ≡ Cause.Usage → request_of call.now ≡ None }
-    ensures refused { request_of call.now ≡ None → ((result.cause ≡ Cause.Usage) ⊎ (result.cause ≡ Cause.OutOfMemory)) × (result.outcomes ≡ []) }
-    ensures untouched { request_of call.now ≡ None → (reader.new ≡ reader.old) × (tree.new ≡ tree.old) × (gate.new ≡ gate.old) × (output.new ≡ output.old) × (out.new ≡ out.old) }
-    ensures told { (Rose (E.faults err.old) (E.faults err.new) → ⊥) → Appends (E.taken err.old) (E.taken err.new) (told call.now result.outcomes result.cause) }
-    ensures told_part { AppendsPart (E.taken err.old) (E.taken err.new) (told call.now result.outcomes result.cause) }
-    ensures locate { IsLocate (request_of call.now) (λ asked. LocateRun asked (known (R.files reader.old) (G.tests gate.old))
-        (standing (R.given reader.old) (G.asks gate.old) 0 (P.held_back out.old) (P.taken out.old) (R.faults reader.old) (G.faults gate.old) (P.faults out.old))
-        (standing (R.given reader.new) (G.asks gate.new) 0 (P.held_back out.new) (P.taken out.new) (R.faults reader.new) (G.faults gate.new) (P.faults out.new))
-        result.outcomes result.cause) }
-    ensures locate_unopened { IsLocate (request_of call.now) (λ asked. result.cause ≡ Cause.OutOfMemory → (reader.new ≡ reader.old) × (gate.new ≡ gate.old) × (out.new ≡ out.old)) }
-    ensures locate_unasked { IsLocate (request_of call.now) (λ asked. databases_of asked ≡ [] → (reader.new ≡ reader.old) × (gate.new ≡ gate.old)) }
-    ensures locate_alone { IsLocate (request_of call.now) (λ asked. (tree.new ≡ tree.old) × (output.new ≡ output.old)) }
-    ensures updatedb { IsUpdatedb (request_of call.now) (λ asked. UpdatedbRun asked call.now.moment
-        (record { files = R.files reader.old; given = R.given reader.old; reads_failed = R.faults reader.old; dirs = T.dirs tree.old; openings = T.openings tree.old; stats = T.stats tree.old; priced = T.priced tree.old; tree_failed = T.faults tree.old; held = O.held output.old; output_failed = O.faults output.old; taken = P.taken out.old; writes_failed = P.faults out.old })
-        (record { files = R.files reader.new; given = R.given reader.new; reads_failed = R.faults reader.new; dirs = T.dirs tree.new; openings = T.openings tree.new; stats = T.stats tree.new; priced = T.priced tree.new; tree_failed = T.faults tree.new; held = O.held output.new; output_failed = O.faults output.new; taken = P.taken out.new; writes_failed = P.faults out.new })
-        result.cause) }
-    ensures updatedb_alone { IsUpdatedb (request_of call.now) (λ asked. (result.outcomes ≡ []) × (gate.new ≡ gate.old)) }
-    ensures passed_on { (Rose (P.faults out.old) (P.faults out.new) → ⊥) → P.held_back out.old ≡ 0 → P.held_back out.new ≡ 0 }
-    ensures files { R.files reader.new ≡ R.files reader.old }
+    ensures does { Does call.now
+        (record { files = R.files reader.old; given = R.given reader.old; reads_failed = R.faults reader.old;
+            dirs = T.dirs tree.old; openings = T.openings tree.old; stats = T.stats tree.old; priced = T.priced tree.old; tree_failed = T.faults tree.old;
+            tests = G.tests gate.old; asks = G.asks gate.old; gate_failed = G.faults gate.old;
+            held = O.held output.old; begins = O.begins output.old; output_failed = O.faults output.old;
+            taken = P.taken out.old; held_back = P.held_back out.old; writes_failed = P.faults out.old; err_taken = E.taken err.old; err_failed = E.faults err.old })
+        result
+        (record { files = R.files reader.new; given = R.given reader.new; reads_failed = R.faults reader.new;
+            dirs = T.dirs tree.new; openings = T.openings tree.new; stats = T.stats tree.new; priced = T.priced tree.new; tree_failed = T.faults tree.new;
+            tests = G.tests gate.new; asks = G.asks gate.new; gate_failed = G.faults gate.new;
+            held = O.held output.new; begins = O.begins output.new; output_failed = O.faults output.new;
+            taken = P.taken out.new; held_back = P.held_back out.new; writes_failed = P.faults out.new; err_taken = E.taken err.new; err_failed = E.faults err.new }) }
+    ensures leaves { Leaves (request_of call.now) result.cause (reader.new ≡ reader.old) (tree.new ≡ tree.old) (gate.new ≡ gate.old) (output.new ≡ output.old) (out.new ≡ out.old) }
     ensures tree_kept { T.kept tree.old tree.new }
     ensures gate_kept { G.kept gate.old gate.new }
     ensures out_kept { P.kept out.old out.new }
     ensures err_kept { E.kept err.old err.new }
-    ensures err_later { E.faults err.old ≤ E.faults err.new }
 {
     let task = match call.task(alloc) {
         Ok(task) => task,
