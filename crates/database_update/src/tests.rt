@@ -1,5 +1,5 @@
 //! Updates over files, trees and outputs in memory.
-ghost use Rattle.std.specs.Prelude.{◌≡◌, ◌-◌, Some, OnOk, OnErr, length, min};
+ghost use Rattle.std.specs.Prelude.{◌-◌, ⊤, Some, length, min};
 ghost use Rattle.std.proofs.Math.Nat.{min-le_right};
 ghost use Rattle.loc_outside.specs.Causes.{last_count, stays_below};
 
