@@ -8,7 +8,7 @@ use Rattle.updatedb_conf.specs.declared.changes.Changes.{Changes}
 use Rattle.updatedb_conf.specs.declared.fault.ConfFault.{ConfFault}
 use Rattle.updatedb_conf.specs.declared.fault.ConfCause.TheVariants as conf_causes
 use Rattle.updatedb_conf.specs.Line.{◌>>=◌}
-use Rattle.updatedb_conf.specs.Settings.{Settings, changed, default_settings, settings_in}
+use Rattle.updatedb_conf.specs.Settings.{Settings, changed, conf_of, default_settings, settings_in}
 use Rattle.mount_table.specs.declared.fault.MountFault.{MountFault}
 use Rattle.mount_table.specs.declared.fault.MountCause.TheVariants as mount_causes
 use Rattle.mount_table.specs.Row.{MountRow}
@@ -30,42 +30,46 @@ within a b h = grind (arith, nat_tests)
 
 -- ---- the configuration
 
-pub conf_none : (o : Option (List ℕ)) (conf : Settings) → None ≡ o → conf ≡ default_settings → conf_of_file o ≡ Ok conf
+pub conf_none : (o : Option (List ℕ)) (conf : Settings) (changes : Changes) → None ≡ o → conf ≡ default_settings → conf_of_file o changes ≡ Ok (changed conf changes)
 unfolding conf_of_file
-conf_none o conf e d = ap conf_of_file (sym e) ∙ ap (λ c. Ok c) (sym d)
+conf_none o conf changes e d = ap (λ (p : Option (List ℕ)). conf_of_file p changes) (sym e) ∙ ap (λ (c : Settings). Ok (changed c changes)) (sym d)
 
-long_conf : (text : List ℕ) → limit_of Configuration < length text → conf_of_file (Some text) ≡ Err (record { line = 0; cause = conf_causes.LongText })
+long_conf : (text : List ℕ) (changes : Changes) → limit_of Configuration < length text → conf_of_file (Some text) changes ≡ Err (record { line = 0; cause = conf_causes.LongText })
 unfolding conf_of_file
-long_conf text h = ap (λ (b : Bool). if b then Err (record { line = 0; cause = conf_causes.LongText }) else settings_in text) (above 1048576 (length text) h)
+long_conf text changes h = ap (λ (b : Bool). if b then Err (record { line = 0; cause = conf_causes.LongText }) else conf_of text changes) (above 1048576 (length text) h)
 
-pub conf_long : (o : Option (List ℕ)) → IsSomeAnd o (λ t. limit_of Configuration < length t) → conf_or_fault (conf_of_file o) ≡ Err (BadConf 0 conf_causes.LongText)
-conf_long None h = absurd h
-conf_long (Some text) h = ap conf_or_fault (long_conf text h)
+pub conf_long : (o : Option (List ℕ)) (changes : Changes) → IsSomeAnd o (λ t. limit_of Configuration < length t) → conf_or_fault (conf_of_file o changes) ≡ Err (BadConf 0 conf_causes.LongText)
+conf_long None changes h = absurd h
+conf_long (Some text) changes h = ap conf_or_fault (long_conf text changes h)
 
-short_conf : (text : List ℕ) → length text ≤ limit_of Configuration → conf_of_file (Some text) ≡ settings_in text
+short_conf : (text : List ℕ) (changes : Changes) → length text ≤ limit_of Configuration → conf_of_file (Some text) changes ≡ conf_of text changes
 unfolding conf_of_file
-short_conf text h = ap (λ (b : Bool). if b then Err (record { line = 0; cause = conf_causes.LongText }) else settings_in text) (within 1048576 (length text) h)
+short_conf text changes h = ap (λ (b : Bool). if b then Err (record { line = 0; cause = conf_causes.LongText }) else conf_of text changes) (within 1048576 (length text) h)
 
-pub conf_read : (o found : Option (List ℕ)) (text text' : List ℕ) → found ≡ Some text → found ≡ o → IfSome found (λ b. length b ≤ limit_of Configuration) → text' ≡ text
-    → conf_of_file o ≡ settings_in text'
-conf_read o found text text' f e fits same =
+pub conf_read : (o found : Option (List ℕ)) (text text' : List ℕ) (changes : Changes) → found ≡ Some text → found ≡ o → IfSome found (λ b. length b ≤ limit_of Configuration) → text' ≡ text
+    → conf_of_file o changes ≡ conf_of text' changes
+conf_read o found text text' changes f e fits same =
     let h : length text ≤ limit_of Configuration = subst (λ (p : Option (List ℕ)). IfSome p (λ b. length b ≤ limit_of Configuration)) f fits in
-    ap conf_of_file (sym e ∙ f) ∙ short_conf text h ∙ ap settings_in (sym same)
+    ap (λ (p : Option (List ℕ)). conf_of_file p changes) (sym e ∙ f) ∙ short_conf text changes h ∙ ap (λ (t : List ℕ). conf_of t changes) (sym same)
 
-pub conf_refused : (r : Result Settings ConfFault) (fault : ConfFault) (e : UpdateFault) → (r ≡ Err fault) ⊎ (fault ≡ record { line = 0; cause = conf_causes.OutOfMemory }) → fault.cause ≢ conf_causes.OutOfMemory
-    → e ≡ BadConf fault.line fault.cause → conf_or_fault r ≡ Err e
-conf_refused r fault e (inl p) n q = ap conf_or_fault p ∙ ap (λ f. Err f) (sym q)
-conf_refused r fault e (inr p) n q = absurd (n (ap (λ (f : ConfFault). f.cause) p))
+-- a text that is read well is changed then
+pub conf_changed : (text : List ℕ) (changes : Changes) (conf : Settings) → settings_in text ≡ Ok conf → conf_of text changes ≡ Ok (changed conf changes)
+conf_changed text changes conf e = ap (λ (r : Result Settings ConfFault). r >>= λ before. Ok (changed before changes)) e
 
-pub conf_in_err : (files : Files) (asked : UpdatedbAsked) (fault : UpdateFault) → conf_or_fault (conf_of_file (get files (name_of Configuration))) ≡ Err fault → conf_in files asked ≡ Err fault
+pub conf_refused : (text : List ℕ) (changes : Changes) (fault : ConfFault) (e : UpdateFault) → (settings_in text ≡ Err fault) ⊎ (fault ≡ record { line = 0; cause = conf_causes.OutOfMemory }) → fault.cause ≢ conf_causes.OutOfMemory
+    → e ≡ BadConf fault.line fault.cause → conf_or_fault (conf_of text changes) ≡ Err e
+conf_refused text changes fault e (inl p) n q = ap (λ (r : Result Settings ConfFault). conf_or_fault (r >>= λ before. Ok (changed before changes))) p ∙ ap (λ f. Err f) (sym q)
+conf_refused text changes fault e (inr p) n q = absurd (n (ap (λ (f : ConfFault). f.cause) p))
+
+pub conf_in_err : (files : Files) (asked : UpdatedbAsked) (fault : UpdateFault) → conf_or_fault (conf_of_file (get files (name_of Configuration)) (changes_of asked)) ≡ Err fault → conf_in files asked ≡ Err fault
 unfolding conf_in
-conf_in_err files asked fault e = ap (λ (r : Result Settings UpdateFault). r >>= λ before. Ok (changed before (changes_of asked))) e
+conf_in_err files asked fault e = e
 
-pub conf_in_ok : (files : Files) (asked : UpdatedbAsked) (before after : Settings) (changes : Changes) → conf_of_file (get files (name_of Configuration)) ≡ Ok before → changes ≡ changes_of asked
+pub conf_in_ok : (files : Files) (asked : UpdatedbAsked) (before after : Settings) (changes : Changes) → conf_of_file (get files (name_of Configuration)) changes ≡ Ok (changed before changes) → changes ≡ changes_of asked
     → after ≡ changed before changes → conf_in files asked ≡ Ok after
 unfolding conf_in
 conf_in_ok files asked before after changes e c a =
-    ap (λ (r : Result Settings ConfFault). conf_or_fault r >>= λ b. Ok (changed b (changes_of asked))) e ∙ ap (λ (d : Changes). Ok (changed before d)) (sym c) ∙ ap (λ (s : Settings). Ok s) (sym a)
+    ap (λ (d : Changes). conf_or_fault (conf_of_file (get files (name_of Configuration)) d)) (sym c) ∙ ap conf_or_fault e ∙ ap (λ (s : Settings). Ok s) (sym a)
 
 -- ---- the mounts
 

@@ -1,17 +1,25 @@
 -- What a scan has written, as the bytes that are pending in an output.
-use Rattle.std.proofs.Common.{Bool, ◌≡◌, ℕ, List, [], ◌∷◌, refl, ap, inl, inr, Option, Err, IsErrOf, arith}
+use Rattle.std.proofs.Common.{Bool, ◌≡◌, ℕ, List, [], ◌∷◌, length, take, refl, sym, ap, subst, ◌∙◌, append-nil, inl, inr, Option, Err, IsErrOf, arith}
+use Rattle.std.proofs.Math.Seq.{take-length}
 use Rattle.std.specs.Io.KnownBytes.{Appends}
 use Rattle.path_order.specs.Stamp.{Moment}
+use Rattle.std.specs.Option.{option_map}
+use Rattle.loc_outside.specs.Held.{Held, begun, grown}
+use Rattle.loc_outside.specs.Outside.{AppendsPart}
 use Rattle.loc_outside.specs.Trees.{Dir, Dirs}
+use Rattle.tree_scan.specs.Blocks.{echo_text, scan_pieces, scan_text}
 use Rattle.tree_scan.specs.Plan.{Plan}
 use Rattle.tree_scan.specs.Records.{Honest, Record, unvouched}
-use Rattle.tree_scan.specs.Walks.{CameTo, StopsAt, StopsAtWide, StopsWide, Whole, WroteOf}
+use Rattle.tree_scan.specs.Walks.{CameTo, LinesFollow, StopsAt, StopsAtWide, StopsWide, Whole, WroteOf}
+use Rattle.tree_scan.proofs.Follows.{Pieces, echoed_of, echoed_scan, written_of, written_scan}
 use Rattle.tree_scan.specs.declared.rules.Counts.{Counts}
 use Rattle.tree_scan.specs.declared.rules.ScanFault.{ScanFault}
 use Rattle.tree_scan.specs.declared.rules.ScanFault.TheVariants as scan_faults
 use Rattle.database_update.specs.declared.fault.UpdateFault.{UpdateFault}
 use Rattle.database_update.specs.declared.fault.UpdateFault.TheVariants as faults
 use Rattle.database_update.specs.Faults.{fault_of}
+use Rattle.database_update.specs.Holding.{none_pending, pending_in}
+use Rattle.database_update.proofs.HoldingLemmas.{appends_whole, pending_begun, pending_grows}
 
 -- no record is honest by itself
 pub honest_none : (dirs : Dirs) (plan : Plan) → Honest [] dirs plan
@@ -64,6 +72,42 @@ wide_alike records names directories whole dirs plan now t t' p p' e e' alike s 
   wide = s.wide;
   unvouched = s.unvouched;
 }
+
+pub follows_alike : (ps : Pieces) (t t' p p' e e' : Option (List ℕ)) → ((bytes : List ℕ) → Appends t t' bytes → Appends p p' bytes) → LinesFollow ps t t' e e' → LinesFollow ps p p' e e'
+follows_alike ps t t' p p' e e' alike h = record {
+  count = h.count;
+  within = h.within;
+  more = h.more;
+  written = alike _ h.written;
+  lined = h.lined;
+}
+
+-- ---- a whole scan
+
+pieces_follow : (ps : Pieces) (written echoed : List ℕ) (t t' e e' : Option (List ℕ)) → written_of ps ≡ written → echoed_of ps ≡ echoed → Appends t t' written → Appends e e' echoed → LinesFollow ps t t' e e'
+pieces_follow ps written echoed t t' e e' w l put lined =
+    let all : take (length ps) ps ≡ ps = take-length ps in
+    record {
+      count = length ps;
+      within = omega arith;
+      more = [];
+      written = subst (Appends t t') (sym (append-nil (written_of (take (length ps) ps)) ∙ ap written_of all ∙ w)) put;
+      lined = subst (AppendsPart e e') (sym (ap echoed_of all ∙ l)) (appends_whole e e' e' echoed lined refl);
+    }
+
+-- where all pieces were written and all lines echoed, no line came before its piece
+follows_whole : (dirs : Dirs) (plan : Plan) (now : Moment) (t t' e e' : Option (List ℕ)) → Appends t t' (scan_text dirs plan now) → Appends e e' (echo_text dirs plan)
+    → LinesFollow (scan_pieces dirs plan now) t t' e e'
+follows_whole dirs plan now t t' e e' put lined =
+    pieces_follow (scan_pieces dirs plan now) (scan_text dirs plan now) (echo_text dirs plan) t t' e e' (written_scan dirs plan now) (echoed_scan dirs plan now) put lined
+
+-- the same in an output in which a name was begun before
+pub follows_stored : (name : List ℕ) (dirs : Dirs) (plan : Plan) (now : Moment) (a b c d : Option Held) (e e' e'' : Option (List ℕ)) → b ≡ option_map (begun name) a
+    → c ≡ option_map (grown (scan_text dirs plan now)) b → d ≡ c → Appends e e' (echo_text dirs plan) → e'' ≡ e' → LinesFollow (scan_pieces dirs plan now) (none_pending a) (pending_in d) e e''
+follows_stored name dirs plan now a b c d e e' e'' start put same lined passed =
+    let grows : Appends (pending_in b) (pending_in d) (scan_text dirs plan now) = pending_grows b d (scan_text dirs plan now) (same ∙ put) in
+    let from : Appends (none_pending a) (pending_in d) (scan_text dirs plan now) = subst (λ (t : Option (List ℕ)). Appends t (pending_in d) (scan_text dirs plan now)) (pending_begun name a b start) grows in
+    follows_whole dirs plan now (none_pending a) (pending_in d) e e'' from (subst (λ (t : Option (List ℕ)). Appends e t (echo_text dirs plan)) (sym passed) lined)
 
 -- ---- which fault of a scan it was
 

@@ -1,6 +1,7 @@
 -- What an update leaves of an output.
 use Rattle.std.specs.Prelude.{◌≡◌, ◌≤◌, ◌⊎◌, ℕ, List, [], length, take, Option, None, Some, option_map}
 use Rattle.std.specs.FinMap.{insert}
+use Rattle.loc_outside.specs.Causes.{raised}
 use Rattle.loc_outside.specs.Files.{Files}
 use Rattle.loc_outside.specs.Held.{Held, grown}
 use Rattle.database_update.specs.declared.fault.UpdateFault.{UpdateFault}
@@ -45,3 +46,16 @@ Leaves WriteFault name text old new = (new ≡ old) ⊎ PendsPart name text old 
 Leaves TooManyNames name text old new = PendsPart name text old new
 Leaves TooManyDirectories name text old new = PendsPart name text old new
 Leaves OutOfMemory name text old new = (new ≡ old) ⊎ PendsPart name text old new
+
+-- How many names a fault finds begun: none more after a refusal of the settings, one more after a fault of the scan. A fault
+-- of writing, and want of memory, may come before and after.
+abbrev pub Begins : UpdateFault → ℕ → ℕ → Type 0
+Begins (BadConf line cause) old new = new ≡ old
+Begins (BadMount line cause) old new = new ≡ old
+Begins (ReadFault file) old new = new ≡ old
+Begins RootMissing old new = new ≡ raised old 1
+Begins TreeFault old new = new ≡ raised old 1
+Begins WriteFault old new = (new ≡ old) ⊎ (new ≡ raised old 1)
+Begins TooManyNames old new = new ≡ raised old 1
+Begins TooManyDirectories old new = new ≡ raised old 1
+Begins OutOfMemory old new = (new ≡ old) ⊎ (new ≡ raised old 1)

@@ -6,7 +6,7 @@ use Rattle.loc_outside.specs.Trees.{Dirs}
 use Rattle.updatedb_conf.specs.declared.changes.Changes.{Changes}
 use Rattle.updatedb_conf.specs.declared.fault.ConfFault.{ConfFault}
 use Rattle.updatedb_conf.specs.Line.{◌>>=◌}
-use Rattle.updatedb_conf.specs.Settings.{Settings, changed}
+use Rattle.updatedb_conf.specs.Settings.{Settings}
 use Rattle.updatedb_conf.specs.Words.{words}
 use Rattle.mount_table.specs.declared.fault.MountFault.{MountFault}
 use Rattle.mount_table.specs.Row.{MountRow}
@@ -43,9 +43,7 @@ mounts_or_fault (Err fault) = Err (BadMount fault.line fault.cause)
 
 -- the configuration that the files give, with the changes of the words
 unfoldable pub conf_in : Files → UpdatedbAsked → Result Settings UpdateFault
-conf_in files asked = do
-  before ← conf_or_fault (conf_of_file (get files (name_of Configuration)))
-  Ok (changed before (changes_of asked))
+conf_in files asked = conf_or_fault (conf_of_file (get files (name_of Configuration)) (changes_of asked))
 
 -- the mounts that the files give
 unfoldable pub mounts_in : Files → Result (List MountRow) UpdateFault

@@ -1,14 +1,14 @@
 //! The configuration: its file, and what the words of a call change.
-ghost use Rattle.std.specs.Prelude.{false, ◌≡◌, ◌≤◌, ◌≢◌, ◌*◌, ◌+◌, ℕ, Some, Ok, Err, IfOk, IfErr, IsErrOf, IsTrue, length, option_map, unwrap_or, []};
+ghost use Rattle.std.specs.Prelude.{false, ◌≡◌, ◌≤◌, ◌≢◌, ◌*◌, ◌+◌, ℕ, Some, Ok, Err, IfOk, IfErr, OnOk, IsErrOf, IsTrue, length, option_map, unwrap_or, []};
 ghost use Rattle.std.specs.FinMap.{get};
-ghost use Rattle.loc_outside.specs.Causes.{Rose};
+ghost use Rattle.loc_outside.specs.Causes.{Rose, raised};
 ghost use Rattle.loc_outside.specs.Files.{Files};
-ghost use Rattle.updatedb_conf.specs.Settings.{settings_room, changes_room};
+ghost use Rattle.updatedb_conf.specs.Settings.{changed, settings_room, changes_room};
 ghost use Rattle.updatedb_conf.specs.Words.{words, room_of};
 ghost use Rattle.std.specs.Option.{ForSome};
 ghost use Rattle.tool_words.specs.Lists.{FitsList};
 ghost use Rattle.tool_words.specs.UpdatedbSeen.{seen};
-ghost use Rattle.database_update.specs.SettingsFiles.{conf_of_file, name_of};
+ghost use Rattle.database_update.specs.SettingsFiles.{conf_of_file, name_of, read_most};
 ghost use Rattle.database_update.specs.Settings.{changes_of as changes_by, conf_in, conf_or_fault};
 ghost use Rattle.database_update.specs.Faults.{hides_memory, is_of_conf, is_refusal};
 
@@ -39,12 +39,14 @@ fn refusal(fault: ConfFault) -> UpdateFault
 
 /// The configuration of the file, or the defaults where there is none.
 fn read_file<R: Reader>(alloc: Global, reader: &mut R) -> Result<Conf, UpdateFault>
-    ensures ok { IfOk result (λ conf. (files : Files) → R.files reader.old ≡ Some files → conf_of_file (get files (name_of SettingsFile.Configuration)) ≡ Ok conf) }
-    ensures refused { IfErr result (λ fault. IsTrue (is_refusal fault) → (files : Files) → R.files reader.old ≡ Some files → conf_or_fault (conf_of_file (get files (name_of SettingsFile.Configuration))) ≡ Err fault) }
+    ensures ok { IfOk result (λ conf. (files : Files) (changes : Changes) → R.files reader.old ≡ Some files → conf_of_file (get files (name_of SettingsFile.Configuration)) changes ≡ Ok (changed conf changes)) }
+    ensures refused { IfErr result (λ fault. IsTrue (is_refusal fault) → (files : Files) (changes : Changes) → R.files reader.old ≡ Some files → conf_or_fault (conf_of_file (get files (name_of SettingsFile.Configuration)) changes) ≡ Err fault) }
     ensures conf { IfErr result (λ fault. IsTrue (is_of_conf fault)) }
     ensures memory { IfErr result (λ fault. hides_memory fault ≡ false) }
     ensures room { IfOk result (λ conf. settings_room conf ≤ 1048577) }
     ensures given { R.given reader.new ≤ R.given reader.old + 1048577 }
+    ensures given_whole { OnOk result ((files : Files) → R.files reader.old ≡ Some files → R.given reader.new ≡ raised (R.given reader.old) (read_most SettingsFile.Configuration (get files (name_of SettingsFile.Configuration)))) }
+    ensures given_most { (files : Files) → R.files reader.old ≡ Some files → R.given reader.new ≤ R.given reader.old + read_most SettingsFile.Configuration (get files (name_of SettingsFile.Configuration)) }
     ensures fault { IsErrOf result (UpdateFault.ReadFault SettingsFile.Configuration) → Rose (R.faults reader.old) (R.faults reader.new) }
     ensures later { R.faults reader.old ≤ R.faults reader.new }
     ensures files { R.files reader.new ≡ R.files reader.old }
@@ -118,6 +120,8 @@ pub(crate) fn conf_of<R: Reader>(
     ensures memory { IfErr result (λ fault. hides_memory fault ≡ false) }
     ensures room { IfOk result (λ conf. settings_room conf ≤ 101711879) }
     ensures given { R.given reader.new ≤ R.given reader.old + 1048577 }
+    ensures given_whole { OnOk result ((files : Files) → R.files reader.old ≡ Some files → R.given reader.new ≡ raised (R.given reader.old) (read_most SettingsFile.Configuration (get files (name_of SettingsFile.Configuration)))) }
+    ensures given_most { (files : Files) → R.files reader.old ≡ Some files → R.given reader.new ≤ R.given reader.old + read_most SettingsFile.Configuration (get files (name_of SettingsFile.Configuration)) }
     ensures fault { IsErrOf result (UpdateFault.ReadFault SettingsFile.Configuration) → Rose (R.faults reader.old) (R.faults reader.new) }
     ensures later { R.faults reader.old ≤ R.faults reader.new }
     ensures files { R.files reader.new ≡ R.files reader.old }

@@ -1,7 +1,9 @@
 //! The mounts: what the file of the process itself gives.
-ghost use Rattle.std.specs.Prelude.{false, ◌≡◌, ◌≤◌, ◌≢◌, ◌+◌, Some, Ok, Err, IfOk, IfErr, IsErrOf, IsTrue};
-ghost use Rattle.loc_outside.specs.Causes.{Rose};
+ghost use Rattle.std.specs.Prelude.{false, ◌≡◌, ◌≤◌, ◌≢◌, ◌+◌, Some, Ok, Err, IfOk, IfErr, OnOk, IsErrOf, IsTrue};
+ghost use Rattle.loc_outside.specs.Causes.{Rose, raised};
 ghost use Rattle.loc_outside.specs.Files.{Files};
+ghost use Rattle.std.specs.FinMap.{get};
+ghost use Rattle.database_update.specs.SettingsFiles.{name_of, read_most};
 ghost use Rattle.database_update.specs.Settings.{mounts_in};
 ghost use Rattle.database_update.specs.Faults.{hides_memory, is_of_mounts, is_refusal};
 
@@ -37,6 +39,8 @@ pub(crate) fn mounts_of<R: Reader>(alloc: Global, reader: &mut R) -> Result<Moun
     ensures mounts { IfErr result (λ fault. IsTrue (is_of_mounts fault)) }
     ensures memory { IfErr result (λ fault. hides_memory fault ≡ false) }
     ensures given { R.given reader.new ≤ R.given reader.old + 16777217 }
+    ensures given_whole { OnOk result ((files : Files) → R.files reader.old ≡ Some files → R.given reader.new ≡ raised (R.given reader.old) (read_most SettingsFile.Mounts (get files (name_of SettingsFile.Mounts)))) }
+    ensures given_most { (files : Files) → R.files reader.old ≡ Some files → R.given reader.new ≤ R.given reader.old + read_most SettingsFile.Mounts (get files (name_of SettingsFile.Mounts)) }
     ensures fault { IsErrOf result (UpdateFault.ReadFault SettingsFile.Mounts) → Rose (R.faults reader.old) (R.faults reader.new) }
     ensures later { R.faults reader.old ≤ R.faults reader.new }
     ensures files { R.files reader.new ≡ R.files reader.old }

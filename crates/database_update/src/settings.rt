@@ -1,11 +1,13 @@
 //! What is scanned, and how: the files and the words of a call.
-ghost use Rattle.std.specs.Prelude.{false, ◌≡◌, ◌<◌, ◌≤◌, ◌+◌, ◌^◌, length, Some, Ok, Err, IfOk, IfErr, IsErrOf, IsOk, IsTrue};
+ghost use Rattle.std.specs.Prelude.{false, ◌≡◌, ◌<◌, ◌≤◌, ◌+◌, ◌^◌, length, Some, Ok, Err, IfOk, IfErr, OnOk, IsErrOf, IsOk, IsTrue};
+ghost use Rattle.std.specs.FinMap.{get};
 ghost use Rattle.path_order.specs.Path.{is_normal};
-ghost use Rattle.loc_outside.specs.Causes.{Rose};
+ghost use Rattle.loc_outside.specs.Causes.{Rose, raised};
 ghost use Rattle.loc_outside.specs.Files.{Files};
 ghost use Rattle.updatedb_conf.specs.Settings.{settings_room};
 ghost use Rattle.tool_words.specs.UpdatedbSeen.{seen};
 ghost use Rattle.tree_scan.specs.Plans.{plan_of};
+ghost use Rattle.database_update.specs.SettingsFiles.{both_read, name_of, read_most};
 ghost use Rattle.database_update.specs.Settings.{conf_in, plan_in, rules_of as rules_by};
 ghost use Rattle.database_update.specs.Faults.{hides_memory, is_of_settings, is_refusal};
 
@@ -53,6 +55,9 @@ pub(crate) fn read_settings<R: Reader>(
     ensures settings { IfErr result (λ fault. IsTrue (is_of_settings fault)) }
     ensures memory { IfErr result (λ fault. hides_memory fault ≡ false) }
     ensures given { R.given reader.new ≤ R.given reader.old + 17825794 }
+    ensures given_whole { OnOk result ((files : Files) → R.files reader.old ≡ Some files → R.given reader.new ≡ raised (R.given reader.old) (both_read files)) }
+    ensures given_most { (files : Files) → R.files reader.old ≡ Some files → R.given reader.new ≤ R.given reader.old + both_read files }
+    ensures conf_alone { (files : Files) (fault : UpdateFault) → R.files reader.old ≡ Some files → conf_in files (seen asked.now) ≡ Err fault → R.given reader.new ≤ R.given reader.old + read_most SettingsFile.Configuration (get files (name_of SettingsFile.Configuration)) }
     ensures fault { (file : SettingsFile) → IsErrOf result (UpdateFault.ReadFault file) → Rose (R.faults reader.old) (R.faults reader.new) }
     ensures in_hand { IsErrOf result (UpdateFault.ReadFault SettingsFile.Mounts) → (files : Files) → R.files reader.old ≡ Some files → IsOk (conf_in files (seen asked.now)) }
     ensures ruled { IfOk result (λ rules. (rules.root ≡ (seen asked.now).root) × (rules.verbose ≡ (seen asked.now).verbose)) }

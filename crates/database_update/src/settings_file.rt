@@ -1,9 +1,9 @@
 //! The files that settings come from.
-ghost use Rattle.std.specs.Prelude.{◌≡◌, ◌<◌, ◌≤◌, ◌+◌, length, Some, IfOk, IfSome, IsErrOf, IsSomeAnd};
+ghost use Rattle.std.specs.Prelude.{◌≡◌, ◌<◌, ◌≤◌, ◌+◌, length, Some, IfOk, IfSome, OnOk, IsErrOf, IsSomeAnd};
 ghost use Rattle.std.specs.FinMap.{get};
-ghost use Rattle.loc_outside.specs.Causes.{Rose};
+ghost use Rattle.loc_outside.specs.Causes.{Rose, raised};
 ghost use Rattle.loc_outside.specs.Files.{Files};
-ghost use Rattle.database_update.specs.SettingsFiles.{limit_of, name_of};
+ghost use Rattle.database_update.specs.SettingsFiles.{limit_of, name_of, read_most};
 
 use byte_feed::{AllFault, Bytes, read_all};
 use loc_outside::{Opened, Reader};
@@ -49,6 +49,8 @@ impl SettingsFile {
         ensures within { IfOk result (λ text. IfSome text (λ bytes. length bytes ≤ limit_of self)) }
         ensures too_long { IsErrOf result AllFault.TooLong → (files : Files) → R.files reader.old ≡ Some files → IsSomeAnd (get files (name_of self)) (λ bytes. limit_of self < length bytes) }
         ensures given { R.given reader.new ≤ R.given reader.old + limit_of self + 1 }
+        ensures given_whole { OnOk result ((files : Files) → R.files reader.old ≡ Some files → R.given reader.new ≡ raised (R.given reader.old) (read_most self (get files (name_of self)))) }
+        ensures given_most { (files : Files) → R.files reader.old ≡ Some files → R.given reader.new ≤ R.given reader.old + read_most self (get files (name_of self)) }
         ensures fault { IsErrOf result AllFault.ReadFault → Rose (R.faults reader.old) (R.faults reader.new) }
         ensures later { R.faults reader.old ≤ R.faults reader.new }
         ensures files { R.files reader.new ≡ R.files reader.old }

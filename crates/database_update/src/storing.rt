@@ -1,19 +1,19 @@
 //! The scan into the output, and the commit.
-ghost use Rattle.std.specs.Prelude.{◌≡◌, ◌≤◌, ◌<◌, ◌+◌, ◌^◌, ◌⊎◌, length, true, false, take, [], option_map, Some, None, Ok, Err, OnOk, OnErr, IfOk, IfErr, IfSome, IsErrOf, IsSome, IsTrue};
+ghost use Rattle.std.specs.Prelude.{◌≡◌, ◌≢◌, ◌≤◌, ◌<◌, ◌+◌, ◌^◌, ◌⊎◌, length, true, false, take, [], option_map, Some, None, Ok, Err, OnOk, OnErr, IfOk, IfErr, IfSome, IsErrOf, IsSome, IsTrue};
 ghost use Rattle.std.specs.FinMap.{get, entries};
 ghost use Rattle.std.specs.Io.KnownBytes.{Appends};
 ghost use Rattle.path_order.specs.Path.{is_normal};
-ghost use Rattle.loc_outside.specs.Causes.{Rose};
+ghost use Rattle.loc_outside.specs.Causes.{Rose, raised};
 ghost use Rattle.loc_outside.specs.Held.{committed, emptied, grown};
 ghost use Rattle.loc_outside.specs.Outside.{AppendsPart};
 ghost use Rattle.loc_outside.specs.Trees.{Dirs};
-ghost use Rattle.tree_scan.specs.Blocks.{scan_text, echo_text, entries_of};
+ghost use Rattle.tree_scan.specs.Blocks.{scan_text, scan_pieces, echo_text, entries_of};
 ghost use Rattle.tree_scan.specs.Plans.{plan_of};
 ghost use Rattle.tree_scan.specs.Reach.{reached, tried as tried_directories};
 ghost use Rattle.tree_scan.specs.Steps.{priced_candidates};
-ghost use Rattle.tree_scan.specs.Walks.{HasWide, ListsMore, Narrow, StopsAt, StopsAtWide, StopsWide, Whole, WroteOf};
+ghost use Rattle.tree_scan.specs.Walks.{HasWide, LinesFollow, ListsMore, Narrow, StopsAt, StopsAtWide, StopsWide, Whole, WroteOf};
 ghost use Rattle.database_update.specs.Faults.{is_of_scan};
-ghost use Rattle.database_update.specs.Holding.{GrowsPart, Leaves, none_pending, pending_in, stored_in, with_file, with_pending};
+ghost use Rattle.database_update.specs.Holding.{Begins, GrowsPart, Leaves, none_pending, pending_in, stored_in, with_file, with_pending};
 
 use crate::fault::{UpdateFault, fault_of_scan};
 use loc_outside::{BufferedSink, Output, Tree};
@@ -41,6 +41,7 @@ fn scan_into<T: Tree, O: Output, P: BufferedSink>(
     ensures exact { OnOk result ((dirs : Dirs) → T.dirs tree.old ≡ Some dirs → T.openings tree.old ≤ 2 ^ 63 → T.openings tree.new ≡ T.openings tree.old + length (tried_directories dirs (plan_of rules.now).pruned (plan_of rules.now).root)) }
     ensures part { OnErr result ((dirs : Dirs) → T.dirs tree.old ≡ Some dirs → GrowsPart (scan_text dirs (plan_of rules.now) now) (O.held output.old) (O.held output.new)) }
     ensures echo_part { OnErr result ((dirs : Dirs) → T.dirs tree.old ≡ Some dirs → AppendsPart (P.taken out.old) (P.taken out.new) (echo_text dirs (plan_of rules.now))) }
+    ensures follows { OnErr result ((dirs : Dirs) → T.dirs tree.old ≡ Some dirs → LinesFollow (scan_pieces dirs (plan_of rules.now) now) (pending_in (O.held output.old)) (pending_in (O.held output.new)) (P.taken out.old) (P.taken out.new)) }
     ensures untouched { IsErrOf result UpdateFault.RootMissing → (output.new ≡ output.old) × (out.new ≡ out.old) }
     ensures whole_tree { IsErrOf result UpdateFault.TreeFault → (dirs : Dirs) → T.dirs tree.old ≡ Some dirs → Whole dirs (plan_of rules.now) now (pending_in (O.held output.old)) (pending_in (O.held output.new)) (P.taken out.old) (P.taken out.new) }
     ensures stops { IsErrOf result UpdateFault.TreeFault → (dirs : Dirs) → T.dirs tree.old ≡ Some dirs → StopsAt [] 16777216 4294967295 dirs (plan_of rules.now) now (pending_in (O.held output.old)) (pending_in (O.held output.new)) (P.taken out.old) (P.taken out.new) }
@@ -61,6 +62,7 @@ fn scan_into<T: Tree, O: Output, P: BufferedSink>(
     ensures opened { (dirs : Dirs) → T.dirs tree.old ≡ Some dirs → T.openings tree.new ≤ T.openings tree.old + length (tried_directories dirs (plan_of rules.now).pruned (plan_of rules.now).root) }
     ensures openings { T.openings tree.new ≤ T.openings tree.old + 4294967295 }
     ensures quiet { rules.now.verbose ≡ false → out.new ≡ out.old }
+    ensures begins { O.begins output.new ≡ O.begins output.old }
     ensures begun { option_map emptied (O.held output.new) ≡ option_map emptied (O.held output.old) }
     ensures tree_kept { T.kept tree.old tree.new }
     ensures out_kept { P.kept out.old out.new }
@@ -95,6 +97,9 @@ fn finish<O: Output, P: BufferedSink>(
     ensures cause { IfErr result (λ fault. fault ≡ UpdateFault.WriteFault) }
     ensures write_fault { OnErr result (Rose (O.faults output.old) (O.faults output.new) ⊎ IsTrue verbose × Rose (P.faults out.old) (P.faults out.new)) }
     ensures taken { P.taken out.new ≡ P.taken out.old }
+    ensures flushed { OnOk result (IsTrue verbose → P.held_back out.new ≡ 0) }
+    ensures passed_on { OnErr result (IsTrue verbose → (Rose (P.faults out.old) (P.faults out.new) → ⊥) → P.held_back out.new ≡ 0) }
+    ensures begins { O.begins output.new ≡ O.begins output.old }
     ensures quiet { verbose ≡ false → out.new ≡ out.old }
     ensures out_kept { P.kept out.old out.new }
     ensures output_later { O.faults output.old ≤ O.faults output.new }
@@ -109,6 +114,21 @@ fn finish<O: Output, P: BufferedSink>(
         return Err(UpdateFault::WriteFault);
     };
     Ok(())
+}
+
+/// Passes on the lines that were echoed before a fault of the scan. Where the root is missing there is none.
+/// Whether they go through changes no answer.
+fn pass_on<P: BufferedSink>(verbose: bool, fault: UpdateFault, out: &mut P)
+    ensures passed_on { IsTrue verbose → fault ≢ UpdateFault.RootMissing → (Rose (P.faults out.old) (P.faults out.new) → ⊥) → P.held_back out.new ≡ 0 }
+    ensures missing { fault ≡ UpdateFault.RootMissing → out.new ≡ out.old }
+    ensures quiet { verbose ≡ false → out.new ≡ out.old }
+    ensures taken { P.taken out.new ≡ P.taken out.old }
+    ensures kept { P.kept out.old out.new }
+    ensures later { P.faults out.old ≤ P.faults out.new }
+{
+    if verbose && fault != UpdateFault::RootMissing {
+        let _ = out.flush();
+    }
 }
 
 /// Begins the name, scans the tree into the output, and commits.
@@ -130,8 +150,12 @@ pub(crate) fn store<T: Tree, O: Output, P: BufferedSink>(
     ensures few { OnOk result ((dirs : Dirs) → T.dirs tree.old ≡ Some dirs → length (tried_directories dirs (plan_of rules.now).pruned (plan_of rules.now).root) ≤ 4294967295) }
     ensures narrow { OnOk result ((dirs : Dirs) → T.dirs tree.old ≡ Some dirs → Narrow 16777216 (reached dirs (plan_of rules.now).pruned (plan_of rules.now).root)) }
     ensures exact { OnOk result ((dirs : Dirs) → T.dirs tree.old ≡ Some dirs → T.openings tree.old ≤ 2 ^ 63 → T.openings tree.new ≡ T.openings tree.old + length (tried_directories dirs (plan_of rules.now).pruned (plan_of rules.now).root)) }
+    ensures begun { OnOk result (O.begins output.new ≡ raised (O.begins output.old) 1) }
+    ensures flushed { OnOk result (IsTrue rules.now.verbose → P.held_back out.new ≡ 0) }
     ensures unstored { OnErr result (stored_in (O.held output.new) ≡ stored_in (O.held output.old)) }
     ensures leaves { IfErr result (λ fault. (dirs : Dirs) → T.dirs tree.old ≡ Some dirs → Leaves fault name.now (scan_text dirs (plan_of rules.now) now) (O.held output.old) (O.held output.new)) }
+    ensures begins { IfErr result (λ fault. Begins fault (O.begins output.old) (O.begins output.new)) }
+    ensures held_back { OnErr result (IsTrue rules.now.verbose → (Rose (P.faults out.old) (P.faults out.new) → ⊥) → P.held_back out.old ≡ 0 → P.held_back out.new ≡ 0) }
     ensures empty { IsErrOf result UpdateFault.RootMissing → (O.held output.new ≡ option_map (with_pending name.now []) (O.held output.old)) × (out.new ≡ out.old) }
     ensures echo_part { OnErr result ((dirs : Dirs) → T.dirs tree.old ≡ Some dirs → AppendsPart (P.taken out.old) (P.taken out.new) (echo_text dirs (plan_of rules.now))) }
     ensures whole_tree { IsErrOf result UpdateFault.TreeFault → (dirs : Dirs) → T.dirs tree.old ≡ Some dirs → Whole dirs (plan_of rules.now) now (none_pending (O.held output.old)) (pending_in (O.held output.new)) (P.taken out.old) (P.taken out.new) }
@@ -140,6 +164,7 @@ pub(crate) fn store<T: Tree, O: Output, P: BufferedSink>(
     ensures stops_full { IsErrOf result UpdateFault.TooManyDirectories → (dirs : Dirs) → T.dirs tree.old ≡ Some dirs → StopsAt [] 16777216 4294967295 dirs (plan_of rules.now) now (none_pending (O.held output.old)) (pending_in (O.held output.new)) (P.taken out.old) (P.taken out.new) }
     ensures whole_names { IsErrOf result UpdateFault.TooManyNames → (dirs : Dirs) → T.dirs tree.old ≡ Some dirs → StopsAtWide dirs (plan_of rules.now) now 16777216 (none_pending (O.held output.old)) (pending_in (O.held output.new)) (P.taken out.old) (P.taken out.new) }
     ensures whole_directories { IsErrOf result UpdateFault.TooManyDirectories → (dirs : Dirs) → T.dirs tree.old ≡ Some dirs → WroteOf (plan_of rules.now) now (take 4294967295 (tried_directories dirs (plan_of rules.now).pruned (plan_of rules.now).root)) (none_pending (O.held output.old)) (pending_in (O.held output.new)) (P.taken out.old) (P.taken out.new) }
+    ensures follows { OnErr result ((dirs : Dirs) → T.dirs tree.old ≡ Some dirs → (O.held output.new ≡ O.held output.old) × (out.new ≡ out.old) ⊎ LinesFollow (scan_pieces dirs (plan_of rules.now) now) (none_pending (O.held output.old)) (pending_in (O.held output.new)) (P.taken out.old) (P.taken out.new)) }
     ensures scan { IfErr result (λ fault. IsTrue (is_of_scan fault)) }
     ensures missing { IsErrOf result UpdateFault.RootMissing → (dirs : Dirs) → T.dirs tree.old ≡ Some dirs → get dirs rules.now.root ≡ None }
     ensures lacking { (dirs : Dirs) → T.dirs tree.old ≡ Some dirs → get dirs rules.now.root ≡ None → IsErrOf result UpdateFault.RootMissing ⊎ (IsErrOf result UpdateFault.TreeFault ⊎ IsErrOf result UpdateFault.WriteFault) }
@@ -165,7 +190,10 @@ pub(crate) fn store<T: Tree, O: Output, P: BufferedSink>(
     };
     let counts = match scan_into(alloc, rules, now, tree, output, out) {
         Ok(counts) => counts,
-        Err(fault) => return Err(fault),
+        Err(fault) => {
+            pass_on(rules.verbose, fault, out);
+            return Err(fault);
+        }
     };
     match finish(rules.verbose, output, out) {
         Ok(()) => Ok(counts),

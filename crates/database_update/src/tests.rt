@@ -1,6 +1,12 @@
 //! Updates over files, trees and outputs in memory.
+ghost use Rattle.std.specs.Prelude.{◌-◌, ⊤, Some, length, min};
+ghost use Rattle.std.proofs.Math.Nat.{min-le_right};
+ghost use Rattle.loc_outside.specs.Causes.{last_count, stays_below};
+
 use crate::{SettingsFile, UpdateFault, update};
-use loc_outside::{MemFiles, MemOutput, MemSink, MemTree, Times};
+use loc_outside::{
+    BufferedSink, Failed, MemFiles, MemOutput, MemSink, MemTree, Sink, Times, put_all,
+};
 use mount_table::MountCause;
 use path_order::{Kind, Stamp, is_name, is_normal};
 use std::alloc::{AllocError, Global};
@@ -108,6 +114,85 @@ fn run(
     )
 }
 
+/// A sink that holds back the bytes that it takes, up to 100, until it is flushed. Where it is stuck, a flush fails.
+#[derive(Drop)]
+struct LateSink {
+    all: MemSink,
+    passed: usize,
+    stuck: bool,
+    faults: u64,
+}
+
+impl LateSink {
+    fn new(alloc: Global, stuck: bool) -> Result<LateSink, AllocError> {
+        Ok(LateSink {
+            all: MemSink::with_room(alloc, 100)?,
+            passed: 0,
+            stuck,
+            faults: 0,
+        })
+    }
+
+    /// The bytes that it has passed on.
+    fn passed(&self) -> &[u8] {
+        self.all.taken().get(..self.passed).unwrap_or(b"")
+    }
+}
+
+impl Sink for LateSink {
+    ghost taken = { λ s. Some s.all.taken };
+
+    ghost faults = { λ s. min s.faults last_count };
+
+    ghost kept = { λ s t. ⊤ };
+
+    ghost keeps_itself = { λ s. tt };
+
+    ghost keeps_on = { λ s t u first then. tt };
+
+    ghost faults_below = { λ s. stays_below s.faults };
+
+    fn write(&mut self, piece: &[u8]) -> Result<usize, Failed> {
+        let Ok(count) = self.all.write(piece) else {
+            self.faults = self.faults.saturating_add(1);
+            return Err(Failed);
+        };
+        Ok(count)
+    }
+}
+
+impl BufferedSink for LateSink {
+    ghost buffer_size = { 100 };
+
+    ghost held_back = { λ s. min (length s.all.taken - s.passed) 100 };
+
+    ghost held_within = { λ s. min-le_right (length s.all.taken - s.passed) 100 };
+
+    fn flush(&mut self) -> Result<(), Failed> {
+        if self.stuck {
+            self.faults = self.faults.saturating_add(1);
+            return Err(Failed);
+        }
+        self.passed = self.all.taken().len();
+        Ok(())
+    }
+}
+
+/// Updates at 2,000 s with verbose, into this sink.
+fn echo_into(alloc: Global, world: &mut World, out: &mut LateSink) -> Result<Counts, UpdateFault> {
+    let mut asked = plain();
+    asked.verbose = true;
+    update(
+        alloc,
+        &asked,
+        stamp(2_000, 0),
+        &mut world.files,
+        &mut world.tree,
+        &mut world.output,
+        out,
+    )
+}
+
 /// The bytes that are stored under the output's name, or none.
 fn stored(world: &World) -> &[u8] {
     match world.output.stored("/db") {
@@ -186,6 +271,55 @@ fn a_tree_fault_stores_nothing(rt: HostRuntime) -> Result<(), AllocError> {
     );
     assert!(rt; world.output.stored("/db").is_none());
     assert_eq!(rt; world.output.pending().len(), 122);
+    Ok(())
+}
+
+#[test]
+fn lines_are_passed_on_after_a_fault(rt: HostRuntime) -> Result<(), AllocError> {
+    let mut done = 0;
+    for n in 1..40u64 {
+        let mut world = three_levels(rt.alloc(), false)?;
+        let mut out = LateSink::new(rt.alloc(), false)?;
+        world.tree.fail_at(n)?;
+        let answer = echo_into(rt.alloc(), &mut world, &mut out);
+        assert_eq!(rt; out.passed(), out.all.taken());
+        if answer.is_ok() {
+            done = n;
+            break;
+        }
+        assert_eq!(rt; answer, Err(UpdateFault::TreeFault));
+        if n == 11 {
+            assert_eq!(rt; out.passed(), b"/a\n/a.b\n/a/z\n".as_slice());
+        }
+    }
+    assert!(rt; done > 11);
+    Ok(())
+}
+
+#[test]
+fn a_flush_that_fails(rt: HostRuntime) -> Result<(), AllocError> {
+    for (n, fault) in [(11, UpdateFault::TreeFault), (100, UpdateFault::WriteFault)] {
+        let mut world = three_levels(rt.alloc(), false)?;
+        let mut out = LateSink::new(rt.alloc(), true)?;
+        world.tree.fail_at(n)?;
+        assert_eq!(rt; echo_into(rt.alloc(), &mut world, &mut out), Err(fault));
+        assert_eq!(rt; (out.passed(), out.faults), (b"".as_slice(), 1));
+        assert!(rt; world.output.stored("/db").is_none());
+    }
+    Ok(())
+}
+
+#[test]
+fn nothing_is_passed_on_where_the_root_is_missing(rt: HostRuntime) -> Result<(), AllocError> {
+    let mut world = empty_root(rt.alloc())?;
+    world.tree = MemTree::new(rt.alloc());
+    let mut out = LateSink::new(rt.alloc(), false)?;
+    assert_eq!(rt; put_all(&mut out, b"before"), Ok(()));
+    assert_eq!(rt;
+        echo_into(rt.alloc(), &mut world, &mut out),
+        Err(UpdateFault::RootMissing)
+    );
+    assert_eq!(rt; out.passed(), b"".as_slice());
     Ok(())
 }
 

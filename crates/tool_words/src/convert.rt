@@ -51,6 +51,7 @@ fn lacks_name(matches: &ArgMatches<'_>) -> bool
     file_of(matches, "INPUT").is_empty() || file_of(matches, "OUTPUT").is_empty()
 }
 
+/// The settings of words that name both files, from one format, or the one that is found, into another.
 fn settings_with<'a>(
     matches: &ArgMatches<'a>,
     from: Option<Format>,

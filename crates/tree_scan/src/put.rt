@@ -36,8 +36,8 @@ fn put_line<P: Sink>(
     put_all(echo, &[b'\n'])
 }
 
-#[tactic(auto, using(crate::proofs::Texts::name_text))]
 /// Writes an entry, and then its line where paths are echoed.
+#[tactic(auto, using(crate::proofs::Texts::name_text))]
 fn put_name<D: Sink, P: Sink>(
     sink: &mut D,
     echo: &mut P,

@@ -5,7 +5,7 @@ use Rattle.tree_scan.specs.Reach.{reached, tried}
 use Rattle.tree_scan.specs.Records.{unvouched}
 use Rattle.tree_scan.specs.Walks.{HasWide, Narrow, StopsAt, StopsAtWide, StopsWide, WroteOf}
 use Rattle.database_update.proofs.HoldingLemmas.{pending_grows}
-use Rattle.database_update.proofs.ScanLemmas.{honest_none, unvouched_all, stop_alike, wide_alike, err_is, was_tree_fault, was_many_names, was_many_directories, whole_alike, stops_alike, wrote_alike}
+use Rattle.database_update.proofs.ScanLemmas.{follows_alike, honest_none, unvouched_all, stop_alike, wide_alike, err_is, was_tree_fault, was_many_names, was_many_directories, whole_alike, stops_alike, wrote_alike}
 use Rattle.database_update.proofs.storing.scan_into.Goals as goal
 
 pub returns-in-Ok-clause-done : goal.returns-in-Ok-clause-done
@@ -74,3 +74,8 @@ returns-in-Err-clause-wide g c = λ was dirs told.
     subst (λ (es : List (List ℕ × Dir)). HasWide 16777216 es) all
     (subst (λ (n : ℕ). HasWide n (unvouched [] (plan_of c.args.rules.now) (reached dirs (plan_of c.args.rules.now).pruned (plan_of c.args.rules.now).root))) c.standard.ensures.names
     (c.in-Err.ensures.wide (ap (λ f. Err f) fault) dirs told (honest_none dirs (plan_of c.args.rules.now)) refl))
+
+pub returns-in-Err-clause-follows : goal.returns-in-Err-clause-follows
+returns-in-Err-clause-follows g c = λ dirs told.
+    follows_alike _ _ _ _ _ _ _ (λ bytes grows. pending_grows _ _ bytes (g.met.O.Output.keeps_held _ _ bytes c.scan.ensures.sink_kept grows))
+    (c.in-Err.ensures.follows dirs told (honest_none dirs (plan_of c.args.rules.now)))

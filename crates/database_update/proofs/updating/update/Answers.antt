@@ -1,11 +1,11 @@
-use Rattle.std.proofs.Common.{[], true, ◌≡◌, ◌≤◌, ◌+◌, ◌^◌, length, option_map, take}
+use Rattle.std.proofs.Common.{[], true, ◌≡◌, ◌≤◌, ◌+◌, ◌^◌, ◌⊎◌, length, option_map, take}
 use Rattle.std.specs.Io.KnownBytes.{Appends}
 use Rattle.loc_outside.specs.Outside.{AppendsPart}
 use Rattle.tool_words.specs.UpdatedbSeen.{seen}
-use Rattle.tree_scan.specs.Blocks.{scan_text, echo_text}
+use Rattle.tree_scan.specs.Blocks.{scan_pieces, scan_text, echo_text}
 use Rattle.tree_scan.specs.Plans.{plan_of}
 use Rattle.tree_scan.specs.Reach.{reached, tried}
-use Rattle.tree_scan.specs.Walks.{Narrow, StopsAt, StopsAtWide, StopsWide, Whole, WroteOf}
+use Rattle.tree_scan.specs.Walks.{LinesFollow, Narrow, StopsAt, StopsAtWide, StopsWide, Whole, WroteOf}
 use Rattle.database_update.specs.Holding.{none_pending, pending_in, with_file}
 use Rattle.database_update.proofs.MemoryLemmas.{scan_tells_memory}
 use Rattle.database_update.proofs.ToldLemmas.{told_by, told_err, told_ok}
@@ -85,3 +85,10 @@ returns-clause-stops_full g c = λ was.
 
 pub returns-clause-memory : goal.returns-clause-memory
 returns-clause-memory g c = scan_tells_memory c.store.result c.store.ensures.scan
+
+pub returns-clause-follows : goal.returns-clause-follows
+returns-clause-follows g c =
+    told_err c.store.result (g.R.Reader.files c.args.reader.now) (g.T.Tree.dirs c.args.tree.now) (seen c.args.asked.now) (plan_of c.in-Ok.rules)
+    (λ dirs plan. (g.O.Output.held c.store.new.output ≡ g.O.Output.held c.args.output.now) × (c.store.new.out ≡ c.args.out.now)
+    ⊎ LinesFollow (scan_pieces dirs plan c.args.now) (none_pending (g.O.Output.held c.args.output.now)) (pending_in (g.O.Output.held c.store.new.output)) (g.P.Sink.taken c.args.out.now) (g.P.Sink.taken c.store.new.out))
+    c.in-Ok.ensures.accepted c.store.ensures.follows
