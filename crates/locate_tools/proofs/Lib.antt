@@ -8,3 +8,4 @@ pub mod Counting
 pub mod ToldOf
 pub mod Queries
 pub mod Searching
+pub mod Doing

@@ -9,9 +9,7 @@ use Rattle.locate_tools.specs.declared.answer.Cause.TheVariants as causes
 use Rattle.path_order.specs.Stamp.{Moment}
 use Rattle.loc_outside.proofs.Parts.{part_none}
 use Rattle.database_update.specs.Faults.{is_from_outside}
-use Rattle.tool_words.specs.Asked.{Asked, Updatedb, Locate, Convert, Exercise}
 use Rattle.tool_words.specs.Updatedb.{UpdatedbAsked}
-use Rattle.locate_tools.specs.Calls.{IsUpdatedb}
 use Rattle.locate_tools.specs.Updates.{AfterFault, Around, Bounded, Caused, EndsFor, Required, Untouched, UpdatedbRun, cause_of}
 
 -- the fault of an update for which a run ends so, if there is one
@@ -83,16 +81,28 @@ faulted asked now a a' f cause is after caused required bounded = record {
   bounded = bounded;
 }
 
+-- no line before its entry, of what an object has taken
+pub follows_as : {A : Type 0} {o o' : A} {H L : Type 0} (taken : A → Option (List ℕ)) → H × (o' ≡ o) ⊎ L → H × (taken o' ≡ taken o) ⊎ L
+follows_as taken (inl same) = inl (same.0, ap taken same.1)
+follows_as taken (inr lines) = inr lines
+
+-- what is passed on where lines are echoed, and what stays where they are not
+pub passed_on_by : (verbose : Bool) (P : Type 0) (held held' : ℕ) → (IsTrue verbose → P → held ≡ 0 → held' ≡ 0) → (verbose ≡ false → held' ≡ held) → P → held ≡ 0 → held' ≡ 0
+passed_on_by true P held held' echoed quiet p out = echoed refl p out
+passed_on_by false P held held' echoed quiet p out = quiet refl ∙ out
+
 -- ---- where there was no memory for the words, nothing was done
 
 untouched : (a : Around) → Untouched a a
-untouched a = record { openings = refl; stats = refl; tree_failed = refl; held = refl; output_failed = refl; taken = refl; writes_failed = refl }
+untouched a = record { openings = refl; stats = refl; tree_failed = refl; held = refl; begins = refl; output_failed = refl; taken = refl; held_back = refl; writes_failed = refl }
 
 after_none : (asked : UpdatedbAsked) (now : Moment) (a : Around) → AfterFault asked now a a faults.OutOfMemory
 after_none asked now a = record {
   unstored = refl;
   leaves = λ files dirs plan f d p. inl refl;
   echo_part = λ files dirs plan f d p. part_none a.taken _;
+  begins = inl refl;
+  follows = λ files dirs plan f d p. inl (refl, refl);
   early = λ soon. absurd cc;
   empty = λ e. absurd cc;
   unwritten = λ e. absurd cc;
@@ -129,8 +139,11 @@ required_none asked a = record {
 bounded_none : (asked : UpdatedbAsked) (a : Around) → Bounded asked a a
 bounded_none asked a = record {
   unready = λ files fault known no. untouched a;
-  quiet = λ e. (refl, refl);
+  quiet = λ e. (refl, refl, refl);
+  passed_on = λ none out. out;
   given = omega arith;
+  given_most = λ files known. omega arith;
+  conf_alone = λ files fault known no. omega arith;
   opened = λ files dirs plan f d p. omega arith;
   openings = omega arith;
   stats = λ files dirs plan f d p. omega arith;
@@ -140,13 +153,6 @@ bounded_none asked a = record {
   writes_later = omega arith;
 }
 
-run_none : (asked : UpdatedbAsked) (now : Moment) (a : Around) (cause : Cause) → cause ≡ causes.OutOfMemory → UpdatedbRun asked now a a cause
+pub run_none : (asked : UpdatedbAsked) (now : Moment) (a : Around) (cause : Cause) → cause ≡ causes.OutOfMemory → UpdatedbRun asked now a a cause
 run_none asked now a cause is = subst (λ (c : Cause). UpdatedbRun asked now a a c) (sym is)
     (faulted asked now a a faults.OutOfMemory causes.OutOfMemory refl (after_none asked now a) (caused_none asked a) (required_none asked a) (bounded_none asked a))
-
-pub unasked : (request : Option Asked) (now : Moment) (a : Around) (cause : Cause) → cause ≡ causes.OutOfMemory → IsUpdatedb request (λ asked. UpdatedbRun asked now a a cause)
-unasked None now a cause is = tt
-unasked (Some (Updatedb asked)) now a cause is = run_none asked now a cause is
-unasked (Some (Locate asked)) now a cause is = tt
-unasked (Some (Convert asked)) now a cause is = tt
-unasked (Some (Exercise asked)) now a cause is = tt

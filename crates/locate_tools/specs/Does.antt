@@ -51,8 +51,8 @@ Works None now before ending after = Refuses ending
 Works (Some (Locate asked)) now before ending after = Locates asked before ending after
 Works (Some (Updatedb asked)) now before ending after = UpdatesDb asked now before ending after
 -- No words ask for these yet (`built`).
-Works (Some (Convert asked)) now before ending after = ⊥
-Works (Some (Exercise asked)) now before ending after = ⊥
+Works (Some (Convert asked)) now before ending after = Refuses ending
+Works (Some (Exercise asked)) now before ending after = Refuses ending
 
 -- What a run does: the work that its words ask for. Its status is that of the tool and the cause; standard error takes the
 -- messages, or, where it failed, a first part of them; what was written to standard output has gone out, unless it failed;
@@ -81,5 +81,5 @@ abbrev pub Leaves : Option Asked → Cause → (reader tree gate output out : Ty
 Leaves None cause reader tree gate output out = reader × tree × gate × output × out
 Leaves (Some (Locate asked)) cause reader tree gate output out = LeavesLocate asked cause reader tree gate output out
 Leaves (Some (Updatedb asked)) cause reader tree gate output out = gate
-Leaves (Some (Convert asked)) cause reader tree gate output out = ⊥
-Leaves (Some (Exercise asked)) cause reader tree gate output out = ⊥
+Leaves (Some (Convert asked)) cause reader tree gate output out = reader × tree × gate × output × out
+Leaves (Some (Exercise asked)) cause reader tree gate output out = reader × tree × gate × output × out

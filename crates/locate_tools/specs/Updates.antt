@@ -3,21 +3,22 @@ use Rattle.std.specs.Prelude.{◌≡◌, ℕ, ◌+◌, ◌^◌, ◌≤◌, ◌<�
 use Rattle.std.specs.FinMap.{get, entries}
 use Rattle.std.specs.Io.KnownBytes.{Appends}
 use Rattle.path_order.specs.Stamp.{Moment}
-use Rattle.loc_outside.specs.Causes.{Rose}
+use Rattle.loc_outside.specs.Causes.{Rose, raised}
 use Rattle.loc_outside.specs.Files.{Files}
 use Rattle.loc_outside.specs.Held.{Held}
 use Rattle.loc_outside.specs.Outside.{AppendsPart}
 use Rattle.loc_outside.specs.Snapshot.{Snapshot}
 use Rattle.loc_outside.specs.Trees.{Dirs}
 use Rattle.tool_words.specs.Updatedb.{UpdatedbAsked}
-use Rattle.tree_scan.specs.Blocks.{scan_text, echo_text}
+use Rattle.tree_scan.specs.Blocks.{scan_text, echo_text, scan_pieces}
 use Rattle.tree_scan.specs.Plan.{Plan}
 use Rattle.tree_scan.specs.Reach.{reached, tried}
 use Rattle.tree_scan.specs.Steps.{priced_candidates}
-use Rattle.tree_scan.specs.Walks.{HasWide, ListsMore, Narrow, StopsAt, StopsWide, WroteOf}
+use Rattle.tree_scan.specs.Walks.{HasWide, LinesFollow, ListsMore, Narrow, StopsAt, StopsWide, WroteOf}
 use Rattle.database_update.specs.Faults.{hides_memory, is_early, is_from_outside, is_refusal}
-use Rattle.database_update.specs.Holding.{Leaves, none_pending, pending_in, stored_in, with_file, with_pending}
+use Rattle.database_update.specs.Holding.{Begins, Leaves, none_pending, pending_in, stored_in, with_file, with_pending}
 use Rattle.database_update.specs.Settings.{Told, conf_in, plan_in}
+use Rattle.database_update.specs.SettingsFiles.{both_read, name_of, read_most}
 use Rattle.database_update.specs.declared.settings_file.SettingsFile.{SettingsFile}
 use Rattle.database_update.specs.declared.settings_file.SettingsFile.TheVariants.{Configuration, Mounts}
 use Rattle.database_update.specs.declared.fault.UpdateFault.{UpdateFault}
@@ -93,20 +94,27 @@ pub record Untouched (a a' : Around) : Type 0 where
   pub writes_failed : a'.writes_failed ≡ a.writes_failed
 
 -- After Done: the stored files are those at entry, with the complete scan under the name of the output; with `verbose`, the
--- path of each entry was written; each directory that is tried was opened once; no limit was passed.
+-- path of each entry was written, and all has gone out; no other name was begun; each directory that is tried was opened
+-- once; the two settings files were read once; no limit was passed.
 pub record Stored (asked : UpdatedbAsked) (now : Moment) (a a' : Around) : Type 0 where
   pub accepted : (files : Files) → a.files ≡ Some files → IsOk (plan_in files asked)
   pub stored : Planned asked a (λ dirs plan. a'.held ≡ option_map (with_file asked.output (scan_text dirs plan now)) a.held)
   pub echoed : Planned asked a (λ dirs plan. Appends a.taken a'.taken (echo_text dirs plan))
+  pub passed_on : IsTrue asked.verbose → a'.held_back ≡ 0
+  pub begun_once : a'.begins ≡ raised a.begins 1
+  pub read_once : (files : Files) → a.files ≡ Some files → a'.given ≡ raised a.given (both_read files)
   pub opened_once : Planned asked a (λ dirs plan. a.openings ≤ 2 ^ 63 → a'.openings ≡ a.openings + length (tried dirs plan.pruned plan.root))
   pub few : Planned asked a (λ dirs plan. length (tried dirs plan.pruned plan.root) ≤ 4294967295)
   pub narrow : Planned asked a (λ dirs plan. Narrow 16777216 (reached dirs plan.pruned plan.root))
 
--- After a fault: the stored files are as they were, and a first part of the scan is pending, as far as the run came.
+-- After a fault: the stored files are as they were, and a first part of the scan is pending, as far as the run came; no
+-- other name was begun; no line was written before its entry.
 pub record AfterFault (asked : UpdatedbAsked) (now : Moment) (a a' : Around) (fault : UpdateFault) : Type 0 where
   pub unstored : stored_in a'.held ≡ stored_in a.held
   pub leaves : Planned asked a (λ dirs plan. Leaves fault asked.output (scan_text dirs plan now) a.held a'.held)
   pub echo_part : Planned asked a (λ dirs plan. AppendsPart a.taken a'.taken (echo_text dirs plan))
+  pub begins : Begins fault a.begins a'.begins
+  pub follows : Planned asked a (λ dirs plan. (a'.held ≡ a.held) × (a'.taken ≡ a.taken) ⊎ LinesFollow (scan_pieces dirs plan now) (none_pending a.held) (pending_in a'.held) a.taken a'.taken)
   pub early : IsTrue (is_early fault) → Untouched a a'
   pub empty : fault ≡ faults.RootMissing → (a'.held ≡ option_map (with_pending asked.output []) a.held) × (a'.taken ≡ a.taken)
   pub unwritten : fault ≡ faults.WriteFault → Planned asked a (λ dirs plan. get dirs plan.root ≡ None → (a'.held ≡ a.held) × (a'.taken ≡ a.taken))
@@ -140,12 +148,16 @@ pub record Required (asked : UpdatedbAsked) (a a' : Around) (cause : Cause) : Ty
   pub of_locate : cause ≡ causes.NoMatch → ⊥
   pub of_words : cause ≡ causes.Usage → ⊥
 
--- What holds whatever the cause: what is as at entry where the settings are refused or nothing is to be echoed, how much
--- was asked of the reader and of the tree, and that no count of failures has fallen.
+-- What holds whatever the cause: what is as at entry where the settings are refused or nothing is to be echoed, that what was
+-- echoed has gone out unless standard output failed, how much was asked of the reader and of the tree, and that no count of
+-- failures has fallen.
 pub record Bounded (asked : UpdatedbAsked) (a a' : Around) : Type 0 where
   pub unready : (files : Files) (fault : UpdateFault) → a.files ≡ Some files → plan_in files asked ≡ Err fault → Untouched a a'
-  pub quiet : asked.verbose ≡ false → (a'.taken ≡ a.taken) × (a'.writes_failed ≡ a.writes_failed)
+  pub quiet : asked.verbose ≡ false → (a'.taken ≡ a.taken) × (a'.held_back ≡ a.held_back) × (a'.writes_failed ≡ a.writes_failed)
+  pub passed_on : (Rose a.writes_failed a'.writes_failed → ⊥) → a.held_back ≡ 0 → a'.held_back ≡ 0
   pub given : a'.given ≤ a.given + 17825794
+  pub given_most : (files : Files) → a.files ≡ Some files → a'.given ≤ a.given + both_read files
+  pub conf_alone : (files : Files) (fault : UpdateFault) → a.files ≡ Some files → conf_in files asked ≡ Err fault → a'.given ≤ a.given + read_most Configuration (get files (name_of Configuration))
   pub opened : Planned asked a (λ dirs plan. a'.openings ≤ a.openings + length (tried dirs plan.pruned plan.root))
   pub openings : a'.openings ≤ a.openings + 4294967295
   pub stats : Planned asked a (λ dirs plan. a'.stats ≤ a.stats + priced_candidates dirs plan.pruned a.priced plan.root)

@@ -1,19 +1,19 @@
 //! The run of a call.
-ghost use Rattle.std.specs.Prelude.{◌≡◌, ◌≤◌, ◌⊎◌, ◌++◌, [], None, Some, false};
+ghost use Rattle.std.specs.Prelude.{◌≡◌, ◌≤◌, ◌++◌, [], Some};
 ghost use Rattle.std.specs.Io.KnownBytes.{Appends};
 ghost use Rattle.loc_outside.specs.Causes.{Rose};
 ghost use Rattle.loc_outside.specs.Outside.{AppendsPart};
-ghost use Rattle.tool_words.specs.Asked.{Locate, Updatedb};
 ghost use Rattle.tool_words.specs.LocateSeen.{seen as locate_seen};
 ghost use Rattle.tool_words.specs.UpdatedbSeen.{seen as updatedb_seen};
 ghost use Rattle.tool_words.specs.Tools.{speaker as speaker_of_tool};
-ghost use Rattle.locate_tools.specs.Calls.{IsLocate, IsUpdatedb, request_of, tool_called};
+ghost use Rattle.locate_tools.specs.Calls.{request_of};
+ghost use Rattle.locate_tools.specs.Does.{Does, Leaves};
 ghost use Rattle.locate_tools.specs.Located.{databases_of};
 ghost use Rattle.locate_tools.specs.Messages.{cause_message};
 ghost use Rattle.locate_tools.specs.Ran.{LocateRun};
 ghost use Rattle.locate_tools.specs.Standing.{standing};
 ghost use Rattle.locate_tools.specs.Statuses.{status_of};
-ghost use Rattle.locate_tools.specs.Told.{messages, told};
+ghost use Rattle.locate_tools.specs.Told.{messages};
 ghost use Rattle.locate_tools.specs.Tried.{known};
 ghost use Rattle.locate_tools.specs.Updates.{UpdatedbRun};
 

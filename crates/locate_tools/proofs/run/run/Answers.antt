@@ -1,41 +1,50 @@
-use Rattle.std.proofs.Common.{ap, sym, subst, ◌∙◌, ℕ, List, Option}
-use Rattle.std.specs.Io.KnownBytes.{Appends}
-use Rattle.loc_outside.specs.Outside.{AppendsPart}
+use Rattle.std.proofs.Common.{◌≡◌, Option, Some, refl, sym, ap, ◌∙◌}
+use Rattle.tool_words.specs.LocateSeen.{seen as locate_seen}
+use Rattle.tool_words.specs.UpdatedbSeen.{seen as updatedb_seen}
 use Rattle.tool_words.specs.declared.tool.Tool.{Tool}
 use Rattle.locate_tools.specs.Statuses.{status_of}
-use Rattle.locate_tools.proofs.ToldOf.{told_locate, told_updatedb, tool_of_locate, tool_of_updatedb}
-use Rattle.locate_tools.proofs.Updating.{unasked}
+use Rattle.locate_tools.specs.declared.answer.Cause.TheVariants as causes
+use Rattle.locate_tools.proofs.Doing.{does_by, leaves_all, leaves_locate, leaves_updatedb, told_by, works_locate, works_memory, works_refused, works_updatedb}
+use Rattle.locate_tools.proofs.ToldOf.{told_locate, told_memory, told_refused, told_updatedb, tool_of_locate, tool_of_updatedb}
 use Rattle.locate_tools.proofs.run.run.Goals as goal
 
-pub returns-in-Err-OutOfMemory-clause-updatedb : goal.returns-in-Err-OutOfMemory-clause-updatedb
-returns-in-Err-OutOfMemory-clause-updatedb g c = unasked _ _ _ _ c.ended-in-Err-OutOfMemory.ensures.cause
+pub returns-in-Err-Usage-clause-does : goal.returns-in-Err-Usage-clause-does
+returns-in-Err-Usage-clause-does g c = ?
 
-pub returns-in-Locate-clause-status : goal.returns-in-Locate-clause-status
-returns-in-Locate-clause-status g c =
+pub returns-in-Err-OutOfMemory-clause-does : goal.returns-in-Err-OutOfMemory-clause-does
+returns-in-Err-OutOfMemory-clause-does g c = ?
+
+pub returns-in-Err-Usage-clause-leaves : goal.returns-in-Err-Usage-clause-leaves
+returns-in-Err-Usage-clause-leaves g c = leaves_all _ _ _ _ _ _ _ refl refl refl refl refl
+
+pub returns-in-Err-OutOfMemory-clause-leaves : goal.returns-in-Err-OutOfMemory-clause-leaves
+returns-in-Err-OutOfMemory-clause-leaves g c = leaves_all _ _ _ _ _ _ _ refl refl refl refl refl
+
+pub returns-in-Locate-clause-does : goal.returns-in-Locate-clause-does
+returns-in-Locate-clause-does g c =
+    let said = c.run_locate.ensures in
     let asks = rw c.in-Locate.is at c.in-Ok.ensures.accepted in
-    c.run_locate.ensures.status ∙ ap (λ (t : Option Tool). status_of t c.run_locate.result.cause) (sym (tool_of_locate _ _ asks))
+    does_by c.args.call.now _ c.run_locate.result _ _
+    (works_locate _ (locate_seen c.in-Locate.asked) _ _ _ _ asks (record { run = said.run; accepted = said.usage }))
+    (said.status ∙ ap (λ (t : Option Tool). status_of t c.run_locate.result.cause) (sym (tool_of_locate _ _ asks)))
+    (told_locate _ _ c.run_locate.result.outcomes c.run_locate.result.cause asks) said.told said.told_part said.run.passed_on said.files said.err_later
 
-pub returns-in-Locate-clause-told : goal.returns-in-Locate-clause-told
-returns-in-Locate-clause-told g c =
+pub returns-in-Locate-clause-leaves : goal.returns-in-Locate-clause-leaves
+returns-in-Locate-clause-leaves g c =
+    let said = c.run_locate.ensures in
     let asks = rw c.in-Locate.is at c.in-Ok.ensures.accepted in
-    λ none. subst (λ (x : List ℕ). Appends (g.E.Sink.taken c.args.err.now) (g.E.Sink.taken c.run_locate.new.err) x) (told_locate _ _ c.run_locate.result.outcomes c.run_locate.result.cause asks) (c.run_locate.ensures.told none)
+    leaves_locate _ (locate_seen c.in-Locate.asked) _ _ _ _ _ _ asks (record { tree = refl; output = refl; unopened = said.unopened; unasked = said.none })
 
-pub returns-in-Locate-clause-told_part : goal.returns-in-Locate-clause-told_part
-returns-in-Locate-clause-told_part g c =
-    let asks = rw c.in-Locate.is at c.in-Ok.ensures.accepted in
-    subst (λ (x : List ℕ). AppendsPart (g.E.Sink.taken c.args.err.now) (g.E.Sink.taken c.run_locate.new.err) x) (told_locate _ _ c.run_locate.result.outcomes c.run_locate.result.cause asks) c.run_locate.ensures.told_part
-
-pub returns-in-Updatedb-clause-status : goal.returns-in-Updatedb-clause-status
-returns-in-Updatedb-clause-status g c =
+pub returns-in-Updatedb-clause-does : goal.returns-in-Updatedb-clause-does
+returns-in-Updatedb-clause-does g c =
+    let said = c.run_updatedb.ensures in
     let asks = rw c.in-Updatedb.is at c.in-Ok.ensures.accepted in
-    c.run_updatedb.ensures.status ∙ ap (λ (t : Option Tool). status_of t c.run_updatedb.result.cause) (sym (tool_of_updatedb _ _ asks))
+    does_by c.args.call.now _ c.run_updatedb.result _ _
+    (works_updatedb _ (updatedb_seen c.in-Updatedb.asked) _ _ _ _ asks (record { run = rw c.moment.ensures at said.run; accepted = said.usage; outcomes = said.outcomes }))
+    (said.status ∙ ap (λ (t : Option Tool). status_of t c.run_updatedb.result.cause) (sym (tool_of_updatedb _ _ asks)))
+    (told_updatedb _ _ c.run_updatedb.result.cause asks ∙ told_by c.args.call.now _ c.run_updatedb.result.outcomes _ c.run_updatedb.result.cause said.outcomes refl) said.told said.told_part said.run.bounded.passed_on said.files said.err_later
 
-pub returns-in-Updatedb-clause-told : goal.returns-in-Updatedb-clause-told
-returns-in-Updatedb-clause-told g c =
+pub returns-in-Updatedb-clause-leaves : goal.returns-in-Updatedb-clause-leaves
+returns-in-Updatedb-clause-leaves g c =
     let asks = rw c.in-Updatedb.is at c.in-Ok.ensures.accepted in
-    λ none. rw c.run_updatedb.ensures.outcomes (subst (λ (x : List ℕ). Appends (g.E.Sink.taken c.args.err.now) (g.E.Sink.taken c.run_updatedb.new.err) x) (told_updatedb _ _ c.run_updatedb.result.cause asks) (c.run_updatedb.ensures.told none))
-
-pub returns-in-Updatedb-clause-told_part : goal.returns-in-Updatedb-clause-told_part
-returns-in-Updatedb-clause-told_part g c =
-    let asks = rw c.in-Updatedb.is at c.in-Ok.ensures.accepted in
-    rw c.run_updatedb.ensures.outcomes (subst (λ (x : List ℕ). AppendsPart (g.E.Sink.taken c.args.err.now) (g.E.Sink.taken c.run_updatedb.new.err) x) (told_updatedb _ _ c.run_updatedb.result.cause asks) c.run_updatedb.ensures.told_part)
+    leaves_updatedb _ (updatedb_seen c.in-Updatedb.asked) _ _ _ _ _ _ asks refl

@@ -1,7 +1,7 @@
 use Rattle.std.specs.Prelude.{Err}
 use Rattle.std.proofs.Common.{ap, inr, ◌∙◌}
 use Rattle.locate_tools.specs.Updates.{cause_of}
-use Rattle.locate_tools.proofs.Updating.{faulted, lacks_as, not_of_locate, not_of_words, refuses_as}
+use Rattle.locate_tools.proofs.Updating.{faulted, follows_as, lacks_as, not_of_locate, not_of_words, passed_on_by, refuses_as}
 use Rattle.locate_tools.proofs.updated.updatedb.Goals as goal
 
 pub returns-in-Err-clause-run : goal.returns-in-Err-clause-run
@@ -14,13 +14,17 @@ returns-in-Err-clause-run g c =
       unstored = said.unstored;
       leaves = said.leaves;
       echo_part = said.echo_part;
+      begins = said.begins;
+      follows = λ files dirs plan fs ds ps. follows_as g.P.Sink.taken (said.follows files dirs plan fs ds ps);
       early = λ soon. let same = said.early soon in record {
         openings = ap g.T.Tree.openings same.0;
         stats = ap g.T.Tree.stats same.0;
         tree_failed = ap g.T.Tree.faults same.0;
         held = ap g.O.Output.held same.1;
+        begins = ap g.O.Output.begins same.1;
         output_failed = ap g.O.Sink.faults same.1;
         taken = ap g.P.Sink.taken same.2;
+        held_back = ap g.P.BufferedSink.held_back same.2;
         writes_failed = ap g.P.Sink.faults same.2;
       };
       empty = λ e. let left = said.empty (ap Err e) in (left.0, ap g.P.Sink.taken left.1);
@@ -57,12 +61,17 @@ returns-in-Err-clause-run g c =
         stats = ap g.T.Tree.stats same.0;
         tree_failed = ap g.T.Tree.faults same.0;
         held = ap g.O.Output.held same.1;
+        begins = ap g.O.Output.begins same.1;
         output_failed = ap g.O.Sink.faults same.1;
         taken = ap g.P.Sink.taken same.2;
+        held_back = ap g.P.BufferedSink.held_back same.2;
         writes_failed = ap g.P.Sink.faults same.2;
       };
-      quiet = λ quiet. let same = said.quiet quiet in (ap g.P.Sink.taken same, ap g.P.Sink.faults same);
+      quiet = λ quiet. let same = said.quiet quiet in (ap g.P.Sink.taken same, ap g.P.BufferedSink.held_back same, ap g.P.Sink.faults same);
+      passed_on = passed_on_by c.args.asked.now.verbose _ _ _ said.held_back (λ quiet. ap g.P.BufferedSink.held_back (said.quiet quiet));
       given = said.given;
+      given_most = said.given_most;
+      conf_alone = said.conf_alone;
       opened = said.opened;
       openings = said.openings;
       stats = said.stats;
