@@ -1,4 +1,5 @@
-pub mod Blocks
 pub mod Begun
+pub mod Blocks
 pub mod FewBytes
+pub mod Named
 pub mod Told
