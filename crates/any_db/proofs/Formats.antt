@@ -3,9 +3,10 @@ use Rattle.std.proofs.Common.{◌≡◌, ℕ, ◌≤◌, Bool, true, false, cond
 use Rattle.std.specs.Prelude.{nat_eq, unwrap_or, replicate, if◌then◌else◌}
 use Rattle.std.specs.List.{starts_with}
 use Rattle.std.proofs.lemmas.Bool.{and_parts, eqb-true, cases_Bool}
+use Rattle.std.proofs.lemmas.List.{take-take}
 use Rattle.byte_feed.specs.declared.damage.DbFault.TheVariants as faults
 use Rattle.byte_feed.specs.declared.damage.Stop.TheVariants.{NotADatabase}
-use Rattle.byte_feed.specs.Front.{Window}
+use Rattle.byte_feed.specs.Front.{Window, limit, readable}
 use Rattle.byte_feed.specs.Paths.{no_paths, as_paths, end_at}
 use Rattle.byte_feed.proofs.Rests.{nothing_path}
 use Rattle.byte_feed.proofs.Steps.{rest_none}
@@ -21,6 +22,22 @@ use Rattle.bigram_db.proofs.Written.{encoded_can}
 use Rattle.any_db.specs.declared.format.DatabaseFormat.{DatabaseFormat}
 use Rattle.any_db.specs.declared.format.DatabaseFormat.TheVariants.{Mlocate, Locate02, Bigram}
 use Rattle.any_db.specs.Formats.{format_of, rest_in, rest_by}
+
+-- ---- the first bytes
+
+first_alike : (xs ys magic : List ℕ) → length magic ≤ 256 → take 256 xs ≡ take 256 ys → starts_with nat_eq xs magic ≡ starts_with nat_eq ys magic
+first_alike xs ys magic le e =
+    let first : (zs : List ℕ) → take (length magic) zs ≡ take (length magic) (take 256 zs) = λ zs. sym (take-take (length magic) 256 zs le) in
+    rw (first xs ∙ ap (take (length magic)) e ∙ sym (first ys)) refl
+
+pub same_first : (xs ys : List ℕ) → take 256 xs ≡ take 256 ys → format_of xs ≡ format_of ys
+unfolding format_of
+same_first xs ys e =
+    let table : is_bigram xs ≡ is_bigram ys = ap is_table e in
+    rw (first_alike xs ys mlocate_magic (omega arith) e, first_alike xs ys locate02_magic (omega arith) e, table) refl
+
+pub readable_format : (file : List ℕ) → format_of (readable file).bytes ≡ format_of file
+readable_format file = same_first (take limit file) file (take-take 256 limit file (omega arith))
 
 -- ---- what was written
 

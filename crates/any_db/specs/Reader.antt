@@ -22,12 +22,12 @@ is_fresh Fresh = true
 is_fresh stage = false
 
 -- the format, where it is known
-abbrev pub format_told : Stage → Option DatabaseFormat
-format_told Fresh = None
-format_told (Failed feed) = None
-format_told (Mlocate r) = Some formats.Mlocate
-format_told (Locate02 r) = Some formats.Locate02
-format_told (Bigram r) = Some formats.Bigram
+abbrev pub format_known : Stage → Option DatabaseFormat
+format_known Fresh = None
+format_known (Failed feed) = None
+format_known (Mlocate r) = Some formats.Mlocate
+format_known (Locate02 r) = Some formats.Locate02
+format_known (Bigram r) = Some formats.Bigram
 
 -- The format that is known once the first item, read in this format, came whole or not. Its first bytes alone show a
 -- database of mlocate and a LOCATE02 database, but only a whole table shows a bigram database.
@@ -54,7 +54,7 @@ feed_of (Mlocate r) = r.feed
 feed_of (Locate02 r) = r.feed
 feed_of (Bigram r) = r.feed
 
--- the paths that are left, and how the file ends after them
+-- the paths that are left, and how the file ends after them; nobody asks it of a reader that failed
 abbrev pub paths_left : Stage → Window → ToCome
 paths_left Fresh w = rest_in w
 paths_left (Failed feed) w = rest_in w

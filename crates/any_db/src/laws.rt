@@ -1,6 +1,6 @@
 //! Laws of what a file gives, each the contract of a function that does nothing.
-ghost use Rattle.std.specs.Prelude.{◌≡◌, ◌≤◌, ◌++◌, ◌∷◌, List, ℕ, true, Some, None, Err, All};
-ghost use Rattle.byte_feed.specs.Front.{Window};
+ghost use Rattle.std.specs.Prelude.{◌≡◌, ◌≤◌, ◌++◌, ◌∷◌, List, ℕ, take, true, Some, None, Err, All};
+ghost use Rattle.byte_feed.specs.Front.{Window, readable};
 ghost use Rattle.byte_feed.specs.declared.damage.DbFault.TheVariants.{NotADatabase};
 ghost use Rattle.byte_feed.specs.Paths.{PathAt, no_paths};
 ghost use Rattle.mlocate_db.specs.Items.{Header, HeaderItem, spell};
@@ -27,6 +27,12 @@ pub fn heads_rise()
 pub fn no_format_is_no_database()
     ensures none { (w : Window) → format_of w.bytes ≡ None → rest_in w ≡ no_paths 0 0 (Err NotADatabase) }
     ensures only { (w : Window) → (rest_in w).ending ≡ Err NotADatabase → format_of w.bytes ≡ None }
+{}
+
+/// The first 256 bytes of a file decide its format, so it makes no difference how many more may be read.
+pub fn first_bytes_decide_the_format()
+    ensures first { (file other : List ℕ) → take 256 file ≡ take 256 other → format_of file ≡ format_of other }
+    ensures readable { (file : List ℕ) → format_of (readable file).bytes ≡ format_of file }
 {}
 
 /// What is written in a format is of that format: all that begins with the header of an mlocate database, and the LOCATE02

@@ -4,7 +4,6 @@ use Rattle.std.specs.Prelude.{sum_by}
 use Rattle.std.specs.List.{flat_map}
 use Rattle.std.proofs.lemmas.List.{take_more, take_all, get_or-map}
 use Rattle.std.proofs.lemmas.List.Sums.{sum_by-take-le, sum_by-cons}
-use Rattle.byte_feed.specs.Prefix.{common_prefix}
 use Rattle.bigram_db.specs.Pairs.{Pair}
 use Rattle.bigram_db.specs.Chosen.{remainders, path_before, counted_in, counted_behind, counted, times, chosen, table_for}
 use Rattle.bigram_db.specs.Counts.{times_of}

@@ -66,7 +66,7 @@ impl PairCounts {
 }
 
 impl PairTable {
-    /// The table for a list of paths, each counted behind the one before it.
+    /// The table for a list of paths of fewer than 2^63 bytes in all, each counted behind the one before it.
     pub fn for_paths(alloc: Global, paths: &[&[u8]]) -> Result<PairTable, AllocError>
         requires { sum_by length (map (λ p. p.now) paths.now) < 2 ^ 63 }
         ensures { IfOk result (λ t. t ≡ table_for (map (λ p. p.now) paths.now)) }
