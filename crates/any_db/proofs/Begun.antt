@@ -1,5 +1,5 @@
 -- What was begun behind the bytes that told the format.
-use Rattle.std.proofs.Common.{◌≡◌, ℕ, Bool, true, false, cond, List, length, Option, Some, None, Result, Ok, Err, MatchBool, OnOk, IfSome, IfErr, refl, ◌∙◌}
+use Rattle.std.proofs.Common.{◌≡◌, ℕ, Bool, true, false, cond, List, length, Option, Some, None, Result, Ok, Err, MatchBool, OnOk, IfErr, refl, ◌∙◌}
 use Rattle.byte_feed.specs.declared.damage.DbFault.{DbFault}
 use Rattle.byte_feed.specs.Front.{Window}
 use Rattle.byte_feed.specs.Feed.{FeedState, window, so_far, empty_at}

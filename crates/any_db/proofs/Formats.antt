@@ -1,5 +1,5 @@
 -- The formats of files that were written, and what a file of no format gives.
-use Rattle.std.proofs.Common.{◌≡◌, ℕ, ◌≤◌, Bool, true, false, cond, List, [], ◌∷◌, ◌++◌, length, get_or, take, not, Option, Some, None, Ok, Err, refl, sym, ap, ◌∙◌, eqb, inl, inr, arith}
+use Rattle.std.proofs.Common.{◌≡◌, ℕ, ◌≤◌, Bool, true, false, List, [], ◌∷◌, ◌++◌, length, get_or, take, not, Option, Some, None, Err, refl, sym, ap, ◌∙◌, eqb, inl, inr, arith}
 use Rattle.std.specs.Prelude.{nat_eq, unwrap_or, replicate, if◌then◌else◌}
 use Rattle.std.specs.List.{starts_with}
 use Rattle.std.proofs.lemmas.Bool.{and_parts, eqb-true, cases_Bool}

@@ -1,19 +1,17 @@
 -- Which format a file has, by whether its first item is whole in the format that it is read in.
-use Rattle.std.proofs.Common.{◌≡◌, ℕ, Bool, true, false, cond, List, [], Option, Some, None, Result, Ok, Err, MatchBool, OnOk, IfSome, IfErr, refl, sym, ap, ◌∙◌, inl, inr}
-use Rattle.std.specs.Prelude.{unwrap_or, if◌then◌else◌, nat_eq, is_ok, IsErrOf, IsSome}
+use Rattle.std.proofs.Common.{◌≡◌, ℕ, Bool, true, false, cond, List, Option, Some, None, Result, Ok, Err, OnOk, IfSome, IfErr, refl, sym, ap, ◌∙◌, inl, inr}
+use Rattle.std.specs.Prelude.{unwrap_or, if◌then◌else◌, nat_eq, is_ok, IsErrOf}
 use Rattle.std.specs.List.{starts_with}
 use Rattle.std.proofs.lemmas.Bool.{cases_Bool}
-use Rattle.byte_feed.specs.declared.damage.Stop.{Stop}
 use Rattle.byte_feed.specs.declared.damage.DbFault.{DbFault}
 use Rattle.byte_feed.specs.declared.damage.DbFault.TheVariants as faults
-use Rattle.byte_feed.specs.declared.damage.Stop.TheVariants.{NotADatabase}
-use Rattle.byte_feed.specs.Front.{Window, on_ok}
-use Rattle.byte_feed.specs.Feed.{FeedState, window, empty_at}
+use Rattle.byte_feed.specs.Front.{Window}
+use Rattle.byte_feed.specs.Feed.{window, empty_at}
 use Rattle.byte_feed.specs.Paths.{BeginsKnown, UnbegunKnown}
 use Rattle.mlocate_db.specs.Items.{magic as mlocate_magic}
 use Rattle.locate02_db.specs.Items.{magic as locate02_magic}
 use Rattle.bigram_db.specs.Pairs.{is_bigram}
-use Rattle.bigram_db.specs.Items.{Item, TableItem, table_at}
+use Rattle.bigram_db.specs.Items.{table_at}
 use Rattle.any_db.specs.declared.format.DatabaseFormat.{DatabaseFormat}
 use Rattle.any_db.specs.declared.format.DatabaseFormat.TheVariants.{Mlocate, Locate02, Bigram}
 use Rattle.any_db.specs.declared.any_reader.Stage.{Stage}

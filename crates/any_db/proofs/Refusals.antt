@@ -1,6 +1,6 @@
 -- Only the first item of a file shows that it is no database: no later item says so.
-use Rattle.std.proofs.Common.{◌≡◌, ℕ, zero, suc, ◌+◌, ◌-◌, Bool, true, false, cond, not, eqb, List, [], ◌∷◌, ◌++◌, length, drop, Option, Some, None, Result, Ok, Err, refl, sym, ap, subst, ◌∙◌}
-use Rattle.std.specs.Prelude.{nat_eq, unwrap_or, ◌&&◌, nat_lt, nat_le, if◌then◌else◌, ◌==◌, ℤ, pos, negsuc, ◌+ℤ◌, is_some}
+use Rattle.std.proofs.Common.{◌≡◌, ℕ, zero, suc, ◌+◌, ◌-◌, Bool, true, false, cond, not, List, [], ◌∷◌, length, drop, Result, Ok, Err, refl, ap, subst}
+use Rattle.std.specs.Prelude.{nat_eq, ◌&&◌, nat_lt, nat_le, ◌==◌, ℤ, pos, negsuc, ◌+ℤ◌, is_some}
 use Rattle.std.specs.List.{starts_with, position_or_len}
 use Rattle.byte_feed.specs.declared.damage.DamageCause.{DamageCause}
 use Rattle.byte_feed.specs.declared.damage.DbFault.{DbFault}
@@ -11,7 +11,6 @@ use Rattle.byte_feed.specs.Field.{◌>>=◌, byte_at, bytes_at, number_at, ended
 use Rattle.byte_feed.specs.Front.{Format, Window, items_within, items_of, on_ok, left_by, spelling}
 use Rattle.byte_feed.specs.Stream.{is_cut}
 use Rattle.byte_feed.specs.Paths.{Ending, end_at, end_by, rest_of}
-use Rattle.byte_feed.proofs.Fields.{seq}
 use Rattle.mlocate_db.specs.Items as mlocate
 use Rattle.locate02_db.specs.Items as locate02
 use Rattle.bigram_db.specs.Pairs.{is_bigram, is_used, pair_at}
