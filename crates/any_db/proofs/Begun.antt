@@ -1,5 +1,5 @@
 -- What was begun behind the bytes that told the format.
-use Rattle.std.proofs.Common.{◌≡◌, ℕ, Bool, true, false, cond, List, length, Option, Some, None, Result, Ok, Err, MatchBool, OnOk, IfSome, IfErr, refl, ◌∙◌}
+use Rattle.std.proofs.Common.{◌≡◌, ℕ, Bool, true, false, cond, List, length, Option, Some, None, Result, Ok, Err, MatchBool, OnOk, IfErr, refl, ◌∙◌}
 use Rattle.byte_feed.specs.declared.damage.DbFault.{DbFault}
 use Rattle.byte_feed.specs.Front.{Window}
 use Rattle.byte_feed.specs.Feed.{FeedState, window, so_far, empty_at}
@@ -7,9 +7,8 @@ use Rattle.byte_feed.specs.Paths.{Ending, ToCome, Moved, MovedKnown, Broke, Ends
 use Rattle.byte_feed.proofs.Rests.{moved_then, ends_after}
 use Rattle.any_db.specs.declared.any_reader.Stage.{Stage}
 use Rattle.any_db.specs.declared.any_reader.Stage.TheVariants.{Fresh, Failed, Mlocate, Locate02, Bigram}
-use Rattle.any_db.specs.declared.format.DatabaseFormat.{DatabaseFormat}
 use Rattle.any_db.specs.Formats.{rest_in}
-use Rattle.any_db.specs.Reader.{is_fresh, feed_of, paths_left, ToldKnown}
+use Rattle.any_db.specs.Reader.{is_fresh, feed_of, paths_left}
 
 pub fresh_is : (s : Stage) → is_fresh s ≡ true → s ≡ Fresh
 fresh_is Fresh e = refl
@@ -65,7 +64,3 @@ pub ended_behind : (s : Stage) (u : Window → ToCome) (bare : Ending → ToCome
 ended_behind Fresh u bare f l l' l'' (Ok x) fresh m q = tt
 ended_behind Fresh u bare f l l' l'' (Err e) fresh m q = ends_after rest_in u bare (empty_at 0) f l l' l'' (Err e) m q
 ended_behind s u bare f l l' l'' result fresh m q = absurd cc
-
-pub told_behind : (s : Stage) (l : Option (List ℕ)) (d : DatabaseFormat) (told : Option DatabaseFormat) → is_fresh s ≡ true → told ≡ Some d → ToldKnown (empty_at 0) l d → IfSome told (λ e. ToldKnown (feed_of s) l e)
-told_behind Fresh l d told fresh is known = rw is known
-told_behind s l d told fresh is known = absurd cc

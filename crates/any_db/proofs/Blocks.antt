@@ -1,5 +1,6 @@
 -- The directory heads before the paths of a file, and the directories that those paths are in.
 use Rattle.std.proofs.Common.{◌≡◌, ℕ, ◌+◌, ◌<◌, ◌≤◌, Bool, true, false, not, cond, All, List, [], ◌∷◌, ◌++◌, length, take, Option, Some, None, Result, Ok, Err, refl, sym, subst, ◌∙◌, arith}
+use Rattle.std.specs.Prelude.{unwrap_or}
 use Rattle.std.proofs.lemmas.List.{take_at}
 use Rattle.std.proofs.lemmas.List.Elements.{All-nil, All-cons, All-head, All-tail, All-append}
 use Rattle.path_order.specs.Path.{is_root, joined}
@@ -11,7 +12,7 @@ use Rattle.locate02_db.specs.Items.{locate02}
 use Rattle.bigram_db.specs.Items.{bigram}
 use Rattle.any_db.specs.declared.format.DatabaseFormat.{DatabaseFormat}
 use Rattle.any_db.specs.declared.format.DatabaseFormat.TheVariants as formats
-use Rattle.any_db.specs.Formats.{format_of, rest_by, rest_in, beginning_by, beginning, asks_gate, directory_of, HasHeads}
+use Rattle.any_db.specs.Formats.{format_of, read_as, rest_by, rest_in, beginning_by, beginning, asks_gate, directory_of, HasHeads}
 
 -- ---- each of some paths, and each two of them
 
@@ -153,7 +154,7 @@ directory_by formats.Bigram w gate p q before between behind e = absurd (no_gate
 pub one_directory_a_block : (w : Window) → asks_gate (beginning w) ≡ true → (p q : PathAt) (before between behind : List PathAt)
     → (rest_in w).paths ≡ before ++ p ∷ (between ++ q ∷ behind) → p.heads ≡ q.heads → directory_of p ≡ directory_of q
 unfolding rest_in beginning
-one_directory_a_block w gate p q before between behind e = directory_by (format_of w.bytes) w gate p q before between behind e
+one_directory_a_block w gate p q before between behind e = directory_by (read_as w.bytes) w gate p q before between behind e
 
 rise_by : (d : DatabaseFormat) (w : Window) (p q : PathAt) (before between behind : List PathAt) → (rest_by d w).paths ≡ before ++ p ∷ (between ++ q ∷ behind) → p.heads ≤ q.heads
 rise_by formats.Mlocate w p q before between behind e =
@@ -163,13 +164,13 @@ rise_by formats.Bigram w p q before between behind e = level _ before between be
 
 pub heads_rise : (w : Window) (p q : PathAt) (before between behind : List PathAt) → (rest_in w).paths ≡ before ++ p ∷ (between ++ q ∷ behind) → p.heads ≤ q.heads
 unfolding rest_in
-heads_rise w p q before between behind e = rise_by (format_of w.bytes) w p q before between behind e
+heads_rise w p q before between behind e = rise_by (read_as w.bytes) w p q before between behind e
 
 heads_by : (d : DatabaseFormat) (w : Window) → All (λ (p : PathAt). HasHeads d p.heads) (rest_by d w).paths
 heads_by formats.Mlocate w = paths_behind (rest_of mlocate AtStart 0 w).items AtStart 0 0
 heads_by formats.Locate02 w = no_heads locate02 (λ i. refl) (rest_of locate02 locate02.begin 0 w).items locate02.begin 0 0 refl
 heads_by formats.Bigram w = no_heads bigram (λ i. refl) (rest_of bigram bigram.begin 0 w).items bigram.begin 0 0 refl
 
-pub has_heads : (w : Window) → All (λ (p : PathAt). HasHeads (format_of w.bytes) p.heads) (rest_in w).paths
+pub has_heads : (w : Window) (d : DatabaseFormat) → format_of w.bytes ≡ Some d → All (λ (p : PathAt). HasHeads d p.heads) (rest_in w).paths
 unfolding rest_in
-has_heads w = heads_by (format_of w.bytes) w
+has_heads w d e = subst (λ (o : Option DatabaseFormat). All (λ (p : PathAt). HasHeads d p.heads) (rest_by (unwrap_or o formats.Bigram) w).paths) (sym e) (heads_by d w)

@@ -1,21 +1,27 @@
 -- The formats of databases, told apart by the bytes that a file begins with, and what a file of any of them gives.
-use Rattle.std.specs.Prelude.{◌≡◌, ℕ, ◌<◌, Bool, true, false, List, take, Option, Some, None, nat_eq, if◌then◌else◌}
+use Rattle.std.specs.Prelude.{◌≡◌, ℕ, ◌<◌, Bool, true, false, List, take, Option, Some, None, unwrap_or, nat_eq, if◌then◌else◌}
 use Rattle.std.specs.List.{starts_with}
 use Rattle.byte_feed.specs.Front.{Format, Window, limit, readable}
 use Rattle.byte_feed.specs.Paths.{PathAt, ToCome, to_come, beginning_of}
 use Rattle.mlocate_db.specs.Items.{mlocate, magic as mlocate_magic}
 use Rattle.locate02_db.specs.Items.{locate02, magic as locate02_magic}
+use Rattle.bigram_db.specs.Pairs.{is_bigram}
 use Rattle.bigram_db.specs.Items.{bigram}
 use Rattle.any_db.specs.declared.format.DatabaseFormat.{DatabaseFormat}
 use Rattle.any_db.specs.declared.format.DatabaseFormat.TheVariants.{Mlocate, Locate02, Bigram}
 
--- A file that begins as those of mlocate do is read as one of them, and so is a file that begins as those of LOCATE02
--- do. Every other file is read as a bigram database, and is none where its table is not whole.
-unfoldable pub format_of : List ℕ → DatabaseFormat
+-- The format of a file, by the bytes that it begins with: those of mlocate, those of LOCATE02, or else a table of pairs. A
+-- file that begins with none of these is no database, and so is the empty one.
+unfoldable pub format_of : List ℕ → Option DatabaseFormat
 format_of bytes =
-    if starts_with nat_eq bytes mlocate_magic then Mlocate else
-    if starts_with nat_eq bytes locate02_magic then Locate02 else
-    Bigram
+    if starts_with nat_eq bytes mlocate_magic then Some Mlocate else
+    if starts_with nat_eq bytes locate02_magic then Some Locate02 else
+    if is_bigram bytes then Some Bigram else
+    None
+
+-- The format that a file is read in. What is no database is read as a bigram database, and refused where its table is.
+abbrev pub read_as : List ℕ → DatabaseFormat
+read_as bytes = unwrap_or (format_of bytes) Bigram
 
 -- what the items of a format are
 abbrev pub items_in : DatabaseFormat → Format
@@ -30,12 +36,12 @@ rest_by format w = to_come (items_in format) (items_in format).begin 0 0 w
 abbrev pub beginning_by : DatabaseFormat → Window → Option (ℕ × Bool)
 beginning_by format w = beginning_of (items_in format) w
 
--- the same in the format that its first bytes tell
+-- the same in the format that the file is read in
 unfoldable pub rest_in : Window → ToCome
-rest_in w = rest_by (format_of w.bytes) w
+rest_in w = rest_by (read_as w.bytes) w
 
 unfoldable pub beginning : Window → Option (ℕ × Bool)
-beginning w = beginning_by (format_of w.bytes) w
+beginning w = beginning_by (read_as w.bytes) w
 
 -- ---- a whole file
 

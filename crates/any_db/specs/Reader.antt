@@ -6,7 +6,7 @@ use Rattle.byte_feed.specs.Paths.{PathAt, ToCome}
 use Rattle.mlocate_db.specs.Reader.{is_live as live_mlocate, paths_left as left_mlocate, path_found as found_mlocate}
 use Rattle.locate02_db.specs.Reader.{is_live as live_locate02, paths_left as left_locate02, path_found as found_locate02}
 use Rattle.bigram_db.specs.Reader.{is_live as live_bigram, paths_left as left_bigram, path_found as found_bigram}
-use Rattle.any_db.specs.Formats.{format_of, rest_in}
+use Rattle.any_db.specs.Formats.{format_of, read_as, rest_in}
 use Rattle.any_db.specs.declared.format.DatabaseFormat.{DatabaseFormat}
 use Rattle.any_db.specs.declared.format.DatabaseFormat.TheVariants as formats
 use Rattle.any_db.specs.declared.any_reader.AnyReader.{AnyReader}
@@ -21,18 +21,31 @@ abbrev pub is_fresh : Stage → Bool
 is_fresh Fresh = true
 is_fresh stage = false
 
--- the format that was told
-abbrev pub format_told : Stage → Option DatabaseFormat
-format_told Fresh = None
-format_told (Failed feed) = None
-format_told (Mlocate r) = Some formats.Mlocate
-format_told (Locate02 r) = Some formats.Locate02
-format_told (Bigram r) = Some formats.Bigram
+-- the format, where it is known
+abbrev pub format_known : Stage → Option DatabaseFormat
+format_known Fresh = None
+format_known (Failed feed) = None
+format_known (Mlocate r) = Some formats.Mlocate
+format_known (Locate02 r) = Some formats.Locate02
+format_known (Bigram r) = Some formats.Bigram
 
--- This is the format that the file's first bytes tell, where the source tells its bytes.
-abbrev pub ToldKnown : FeedState → Option (List ℕ) → DatabaseFormat → Type 0
-ToldKnown f None format = ⊤
-ToldKnown f (Some l) format = format ≡ format_of (window f l).bytes
+-- The format that is known once the first item, read in this format, came whole or not. Its first bytes alone show a
+-- database of mlocate and a LOCATE02 database, but only a whole table shows a bigram database.
+abbrev pub known_after : Bool → DatabaseFormat → Option DatabaseFormat
+known_after true format = Some format
+known_after false formats.Mlocate = Some formats.Mlocate
+known_after false formats.Locate02 = Some formats.Locate02
+known_after false formats.Bigram = None
+
+-- Where the source tells its bytes, this is the format of the file; none, where it is no database.
+abbrev pub FormatKnown : FeedState → Option (List ℕ) → Option DatabaseFormat → Type 0
+FormatKnown f None format = ⊤
+FormatKnown f (Some l) format = format ≡ format_of (window f l).bytes
+
+-- Where the source tells its bytes, this is the format that the file is read in.
+abbrev pub ReadAsKnown : FeedState → Option (List ℕ) → DatabaseFormat → Type 0
+ReadAsKnown f None format = ⊤
+ReadAsKnown f (Some l) format = format ≡ read_as (window f l).bytes
 
 abbrev pub feed_of : Stage → FeedState
 feed_of Fresh = empty_at 0
@@ -41,7 +54,7 @@ feed_of (Mlocate r) = r.feed
 feed_of (Locate02 r) = r.feed
 feed_of (Bigram r) = r.feed
 
--- the paths that are left, and how the file ends after them
+-- the paths that are left, and how the file ends after them; nobody asks it of a reader that failed
 abbrev pub paths_left : Stage → Window → ToCome
 paths_left Fresh w = rest_in w
 paths_left (Failed feed) w = rest_in w

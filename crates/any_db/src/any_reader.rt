@@ -4,7 +4,7 @@ ghost use Rattle.loc_outside.specs.Causes.{Rose};
 ghost use Rattle.byte_feed.specs.Feed.{Draws, reach};
 ghost use Rattle.byte_feed.specs.Paths.{BeginsKnown, MovedKnown, EndsKnown, UnbegunKnown, StopsAt, IsPath, after_paths, no_paths, is_found};
 ghost use Rattle.any_db.specs.Formats.{beginning, beginning_by, rest_by};
-ghost use Rattle.any_db.specs.Reader.{ToldKnown, fresh, is_fresh, format_told, feed_of, paths_left, is_live, is_gated, path_found, stored_in, heads_in};
+ghost use Rattle.any_db.specs.Reader.{FormatKnown, known_after, fresh, is_fresh, format_known, feed_of, paths_left, is_live, is_gated, path_found, stored_in, heads_in};
 
 use crate::format::{DatabaseFormat, look_format};
 use bigram_db::ReaderBigram;
@@ -18,17 +18,17 @@ use mlocate_db::DbReader;
 pub enum Stage {
     /// Nothing was read yet.
     Fresh,
-    /// The source failed before the format was told.
+    /// The format is not known: the file is no database, or the source failed first.
     Failed(Feed),
     /// A database of mlocate.
     Mlocate(DbReader),
     /// A LOCATE02 database.
     Locate02(Reader02),
-    /// A bigram database, or a file that is no database.
+    /// A bigram database.
     Bigram(ReaderBigram),
 }
 
-/// A reader of a database whose format is told from its first bytes. It takes no memory: it holds the reader of that
+/// A reader of a database whose format is known by its first bytes. It takes no memory: it holds the reader of that
 /// format.
 #[derive(Drop)]
 pub struct AnyReader {
@@ -45,10 +45,10 @@ impl AnyReader {
         }
     }
 
-    /// The format that the first bytes of the file tell; a file that is no database counts as bigram's. `None` until the
-    /// reader has begun, and where the source failed among those bytes.
+    /// The format of the file, once the reader has begun. `None` where the file is no database, and where the source failed
+    /// before its format was known: that takes ten bytes, and all 256 of its table for a bigram database.
     pub fn format(&self) -> Option<DatabaseFormat>
-        ensures { result ≡ format_told self.now.stage }
+        ensures { result ≡ format_known self.now.stage }
     {
         match &self.stage {
             Stage::Fresh => None,
@@ -67,7 +67,7 @@ impl AnyReader {
         src: &mut S,
     ) -> Result<(), DbFault>
         requires { feed.offset ≡ 0 }
-        ensures told { format_told self.new.stage ≡ Some format }
+        ensures told { format_known self.new.stage ≡ known_after (is_ok result) format }
         ensures begun { OnOk result (BeginsKnown (beginning_by format) feed (S.left src.old) (stored_in self.new.stage) (is_gated self.new.stage)) }
         ensures ok { OnOk result (MovedKnown (rest_by format) (paths_left self.new.stage) (λ t. t) feed (S.left src.old) (feed_of self.new.stage) (S.left src.new)) }
         ensures refused { IfErr result (λ e. UnbegunKnown (beginning_by format) feed (S.left src.old) (S.left src.new) e) }
@@ -101,9 +101,16 @@ impl AnyReader {
             }
             DatabaseFormat::Bigram => {
                 let mut reader = ReaderBigram::on(feed);
-                let begun = reader.begin_paths(src);
-                self.stage = Stage::Bigram(reader);
-                begun
+                match reader.begin_paths(src) {
+                    Ok(()) => {
+                        self.stage = Stage::Bigram(reader);
+                        Ok(())
+                    }
+                    Err(fault) => {
+                        self.stage = Stage::Failed(reader.into_feed());
+                        Err(fault)
+                    }
+                }
             }
         }
     }
@@ -130,9 +137,11 @@ impl PathStream for AnyReader {
 
     fn begin_paths<S: Source>(&mut self, src: &mut S) -> Result<(), DbFault>
         requires { IsTrue (is_fresh self.old.stage) }
-        // The format is the one that the file's first bytes tell, and is told unless the source failed.
-        ensures told { IfSome (format_told self.new.stage) (λ d. ToldKnown (feed_of self.old.stage) (S.left src.old) d) }
-        ensures known { (IsErrOf result DbFault.ReadFault → ⊥) → IsSome (format_told self.new.stage) }
+        // Unless the source failed, the format is that of the file, or none where it has none. After a failure too it is
+        // no other one.
+        ensures told { (IsErrOf result DbFault.ReadFault → ⊥) → FormatKnown (feed_of self.old.stage) (S.left src.old) (format_known self.new.stage) }
+        ensures right { IfSome (format_known self.new.stage) (λ d. FormatKnown (feed_of self.old.stage) (S.left src.old) (Some d)) }
+        ensures known { OnOk result (IsSome (format_known self.new.stage)) }
         ensures begun { OnOk result (BeginsKnown beginning (feed_of self.old.stage) (S.left src.old) (stored_in self.new.stage) (is_gated self.new.stage)) }
         ensures ok { OnOk result (MovedKnown (paths_left self.old.stage) (paths_left self.new.stage) (λ t. t) (feed_of self.old.stage) (S.left src.old) (feed_of self.new.stage) (S.left src.new)) }
         ensures refused { IfErr result (λ e. UnbegunKnown beginning (feed_of self.old.stage) (S.left src.old) (S.left src.new) e) }
@@ -163,7 +172,7 @@ impl PathStream for AnyReader {
     fn next_path<S: Source>(&mut self, src: &mut S) -> Result<bool, DbFault>
         requires { IsTrue (is_live self.old.stage) }
         // The format stays.
-        ensures told { format_told self.new.stage ≡ format_told self.old.stage }
+        ensures told { format_known self.new.stage ≡ format_known self.old.stage }
         ensures path { IsTrue (is_found result) → MovedKnown (paths_left self.old.stage) (paths_left self.new.stage) (after_paths (path_found self.new.stage ∷ [])) (feed_of self.old.stage) (S.left src.old) (feed_of self.new.stage) (S.left src.new) }
         ensures end { result ≡ Ok false → EndsKnown (paths_left self.old.stage) (no_paths (stored_in self.new.stage) (heads_in self.new.stage)) (feed_of self.old.stage) (S.left src.old) (S.left src.new) (Ok tt) }
         ensures err { IfErr result (λ e. EndsKnown (paths_left self.old.stage) (no_paths (stored_in self.new.stage) (heads_in self.new.stage)) (feed_of self.old.stage) (S.left src.old) (S.left src.new) (Err e)) }

@@ -4,8 +4,8 @@ ghost use Rattle.loc_outside.specs.Causes.{Rose};
 ghost use Rattle.byte_feed.specs.Feed.{Draws, empty_at, reach};
 ghost use Rattle.byte_feed.specs.Paths.{MovedKnown, EndsKnown, UnbegunKnown, no_paths};
 ghost use Rattle.byte_feed.specs.declared.damage.DbFault.TheVariants.{ReadFault};
-ghost use Rattle.any_db.specs.Formats.{beginning, beginning_by, format_of, rest_by, rest_in};
-ghost use Rattle.any_db.specs.Reader.{ToldKnown};
+ghost use Rattle.any_db.specs.Formats.{beginning, beginning_by, read_as, rest_by, rest_in};
+ghost use Rattle.any_db.specs.Reader.{ReadAsKnown};
 
 use byte_feed::Feed;
 use loc_outside::{Failed, Source};
@@ -21,10 +21,10 @@ pub enum DatabaseFormat {
     Bigram,
 }
 
-/// The format that is told by these bytes, of which the first ten decide.
-#[tactic(auto, unfolding(crate::specs::Formats::format_of))]
-fn told_by(bytes: &[u8]) -> DatabaseFormat
-    ensures { result ≡ format_of bytes.now }
+/// The format that a file with these bytes is read in; the first ten decide.
+#[tactic(auto, using(crate::proofs::Told::read_mlocate, crate::proofs::Told::read_locate02, crate::proofs::Told::read_bigram))]
+fn read_by(bytes: &[u8]) -> DatabaseFormat
+    ensures { result ≡ read_as bytes.now }
 {
     if bytes.starts_with(b"\0mlocate") {
         return DatabaseFormat::Mlocate;
@@ -35,11 +35,11 @@ fn told_by(bytes: &[u8]) -> DatabaseFormat
     DatabaseFormat::Bigram
 }
 
-/// Looks at the first ten bytes of a file, and tells its format by them. They stay ahead in the feed.
+/// Looks at the first ten bytes of a file, which tell the format that it is read in. They stay ahead in the feed.
 #[inline(never)]
 pub(crate) fn look_format<S: Source>(feed: &mut Feed, src: &mut S) -> Result<DatabaseFormat, Failed>
     requires { feed.old ≡ empty_at 0 }
-    ensures told { IfOk result (λ d. ToldKnown feed.old (S.left src.old) d) }
+    ensures told { IfOk result (λ d. ReadAsKnown feed.old (S.left src.old) d) }
     ensures rest { IfOk result (λ d. MovedKnown rest_in (rest_by d) (λ t. t) feed.old (S.left src.old) feed.new (S.left src.new)) }
     ensures first { IfOk result (λ d. MovedKnown beginning (beginning_by d) (λ b. b) feed.old (S.left src.old) feed.new (S.left src.new)) }
     ensures none { OnErr result (EndsKnown rest_in (no_paths 0 0) feed.old (S.left src.old) (S.left src.new) (Err ReadFault)) }
@@ -55,5 +55,5 @@ pub(crate) fn look_format<S: Source>(feed: &mut Feed, src: &mut S) -> Result<Dat
     let Ok(count) = feed.look(src, 10) else {
         return Err(Failed);
     };
-    Ok(told_by(feed.ahead(count)))
+    Ok(read_by(feed.ahead(count)))
 }

@@ -9,4 +9,7 @@ mod tests;
 
 pub use any_reader::AnyReader;
 pub use format::DatabaseFormat;
-pub use laws::{heads_rise, one_directory_a_block};
+pub use laws::{
+    first_bytes_decide_the_format, heads_rise, no_format_is_no_database, one_directory_a_block,
+    written_is_of_its_format,
+};

@@ -119,27 +119,13 @@ fn varied(
 #[test]
 fn tells_mlocate_apart(rt: HostRuntime) -> Result<(), AllocError> {
     for (len, at, byte, format, paths, ending) in [
-        (
-            0,
-            0,
-            0,
-            DatabaseFormat::Bigram,
-            0,
-            Err(DbFault::NotADatabase),
-        ),
-        (
-            7,
-            0,
-            0,
-            DatabaseFormat::Bigram,
-            0,
-            Err(DbFault::NotADatabase),
-        ),
+        (0, 0, 0, None, 0, Err(DbFault::NotADatabase)),
+        (7, 0, 0, None, 0, Err(DbFault::NotADatabase)),
         (
             8,
             0,
             0,
-            DatabaseFormat::Mlocate,
+            Some(DatabaseFormat::Mlocate),
             0,
             damage(0, DamageCause::Cut),
         ),
@@ -147,7 +133,7 @@ fn tells_mlocate_apart(rt: HostRuntime) -> Result<(), AllocError> {
             9,
             0,
             0,
-            DatabaseFormat::Mlocate,
+            Some(DatabaseFormat::Mlocate),
             0,
             damage(0, DamageCause::Cut),
         ),
@@ -155,24 +141,17 @@ fn tells_mlocate_apart(rt: HostRuntime) -> Result<(), AllocError> {
             17,
             0,
             0,
-            DatabaseFormat::Mlocate,
+            Some(DatabaseFormat::Mlocate),
             0,
             damage(0, DamageCause::Cut),
         ),
-        (18, 0, 0, DatabaseFormat::Mlocate, 0, Ok(())),
-        (
-            45,
-            7,
-            b'E',
-            DatabaseFormat::Bigram,
-            0,
-            Err(DbFault::NotADatabase),
-        ),
+        (18, 0, 0, Some(DatabaseFormat::Mlocate), 0, Ok(())),
+        (45, 7, b'E', None, 0, Err(DbFault::NotADatabase)),
         (
             45,
             12,
             2,
-            DatabaseFormat::Mlocate,
+            Some(DatabaseFormat::Mlocate),
             0,
             damage(0, DamageCause::BadVersion),
         ),
@@ -180,7 +159,7 @@ fn tells_mlocate_apart(rt: HostRuntime) -> Result<(), AllocError> {
         let bytes = varied(rt.alloc(), &MLOCATE, len, at, byte)?;
         assert_eq!(rt;
             read_file(&mut SliceSource::new(&bytes)),
-            (Some(format), paths, ending)
+            (format, paths, ending)
         );
     }
     Ok(())
@@ -189,61 +168,26 @@ fn tells_mlocate_apart(rt: HostRuntime) -> Result<(), AllocError> {
 #[test]
 fn tells_locate02_apart(rt: HostRuntime) -> Result<(), AllocError> {
     for (len, at, byte, format, paths, ending) in [
-        (
-            1,
-            0,
-            0,
-            DatabaseFormat::Bigram,
-            0,
-            Err(DbFault::NotADatabase),
-        ),
-        (
-            9,
-            0,
-            0,
-            DatabaseFormat::Bigram,
-            0,
-            Err(DbFault::NotADatabase),
-        ),
-        (10, 0, 0, DatabaseFormat::Locate02, 0, Ok(())),
+        (1, 0, 0, None, 0, Err(DbFault::NotADatabase)),
+        (9, 0, 0, None, 0, Err(DbFault::NotADatabase)),
+        (10, 0, 0, Some(DatabaseFormat::Locate02), 0, Ok(())),
         (
             15,
             0,
             0,
-            DatabaseFormat::Locate02,
+            Some(DatabaseFormat::Locate02),
             0,
             damage(10, DamageCause::Cut),
         ),
-        (16, 0, 0, DatabaseFormat::Locate02, 1, Ok(())),
-        (
-            16,
-            0,
-            1,
-            DatabaseFormat::Bigram,
-            0,
-            Err(DbFault::NotADatabase),
-        ),
-        (
-            16,
-            8,
-            b'3',
-            DatabaseFormat::Bigram,
-            0,
-            Err(DbFault::NotADatabase),
-        ),
-        (
-            16,
-            9,
-            1,
-            DatabaseFormat::Bigram,
-            0,
-            Err(DbFault::NotADatabase),
-        ),
+        (16, 0, 0, Some(DatabaseFormat::Locate02), 1, Ok(())),
+        (16, 0, 1, None, 0, Err(DbFault::NotADatabase)),
+        (16, 8, b'3', None, 0, Err(DbFault::NotADatabase)),
+        (16, 9, 1, None, 0, Err(DbFault::NotADatabase)),
     ] {
         let bytes = varied(rt.alloc(), &LOCATE02, len, at, byte)?;
         assert_eq!(rt;
             read_file(&mut SliceSource::new(&bytes)),
-            (Some(format), paths, ending)
+            (format, paths, ending)
         );
     }
     Ok(())
@@ -252,18 +196,32 @@ fn tells_locate02_apart(rt: HostRuntime) -> Result<(), AllocError> {
 #[test]
 fn tells_bigram_apart(rt: HostRuntime) -> Result<(), AllocError> {
     let bigram = bigram(rt.alloc())?;
-    for (len, at, byte, paths, ending) in [
-        (255, 0, 0, 0, Err(DbFault::NotADatabase)),
-        (259, 5, 7, 0, Err(DbFault::NotADatabase)),
-        (256, 0, 0, 0, Ok(())),
-        (257, 0, 0, 0, damage(256, DamageCause::EmptyPath)),
-        (259, 256, 0x1F, 0, damage(256, DamageCause::NoCount)),
-        (259, 1, b'm', 1, Ok(())),
+    for (len, at, byte, format, paths, ending) in [
+        (255, 0, 0, None, 0, Err(DbFault::NotADatabase)),
+        (259, 5, 7, None, 0, Err(DbFault::NotADatabase)),
+        (256, 0, 0, Some(DatabaseFormat::Bigram), 0, Ok(())),
+        (
+            257,
+            0,
+            0,
+            Some(DatabaseFormat::Bigram),
+            0,
+            damage(256, DamageCause::EmptyPath),
+        ),
+        (
+            259,
+            256,
+            0x1F,
+            Some(DatabaseFormat::Bigram),
+            0,
+            damage(256, DamageCause::NoCount),
+        ),
+        (259, 1, b'm', Some(DatabaseFormat::Bigram), 1, Ok(())),
     ] {
         let bytes = varied(rt.alloc(), &bigram, len, at, byte)?;
         assert_eq!(rt;
             read_file(&mut SliceSource::new(&bytes)),
-            (Some(DatabaseFormat::Bigram), paths, ending)
+            (format, paths, ending)
         );
     }
     Ok(())
@@ -345,14 +303,14 @@ fn failing(alloc: Global, file: &[u8], came: u32) -> Result<ByteByByte, AllocErr
 #[test]
 fn tells_each_read_that_fails(rt: HostRuntime) -> Result<(), AllocError> {
     let bigram = bigram(rt.alloc())?;
-    for (file, format, whole, len) in [
-        (MLOCATE.as_slice(), DatabaseFormat::Mlocate, 44, 45),
-        (LOCATE02.as_slice(), DatabaseFormat::Locate02, 16, 16),
-        (bigram.as_slice(), DatabaseFormat::Bigram, 260, 259),
+    for (file, format, known, whole, len) in [
+        (MLOCATE.as_slice(), DatabaseFormat::Mlocate, 10, 44, 45),
+        (LOCATE02.as_slice(), DatabaseFormat::Locate02, 10, 16, 16),
+        (bigram.as_slice(), DatabaseFormat::Bigram, 256, 260, 259),
     ] {
         for came in 0..len + 1 {
             let mut src = failing(rt.alloc(), file, came)?;
-            let told = if came < 10 { None } else { Some(format) };
+            let told = if came < known { None } else { Some(format) };
             let paths = if came < whole { 0 } else { 1 };
             assert_eq!(rt; read_file(&mut src), (told, paths, Err(DbFault::ReadFault)));
             assert_eq!(rt;

@@ -1,3 +1,4 @@
+mod DamagedExamples
 pub mod EntryLaws
 pub mod EntryReads
 pub mod Grid
@@ -6,6 +7,7 @@ pub mod ItemSteady
 pub mod Padded
 pub mod PairCounting
 pub mod PairPlaces
+pub mod PathCounting
 pub mod Pieces
 pub mod Ranked
 pub mod ReaderSteps

@@ -5,7 +5,7 @@ use Rattle.std.specs.List.{flat_map}
 use Rattle.std.proofs.lemmas.Grind.{flat_map-append}
 use Rattle.bigram_db.specs.Pairs.{Pair, is_table}
 use Rattle.byte_feed.specs.Prefix.{common_prefix}
-use Rattle.bigram_db.specs.Chosen.{remainders, path_before, is_counted, counted_in, counted_behind, counted, times, comes_before, ranked, padded, chosen}
+use Rattle.bigram_db.specs.Chosen.{remainders, path_before, is_counted, counted_in, counted_behind, counted, times, comes_before, ranked, padded, chosen, table_for}
 use Rattle.bigram_db.proofs.InOrder.{Among, Each, Ordered, among_each, each_among}
 use Rattle.bigram_db.proofs.PairPlaces.{bounds}
 use Rattle.bigram_db.proofs.PairCounting.{times-append, often_few}
@@ -70,3 +70,7 @@ before_more before (p ∷ paths) path = before_more p paths path
 
 pub counted_few : (before path : List ℕ) (p : Pair) → 2 * times (counted_behind before path) p ≤ length path
 counted_few before path p = omega (arith, often_few (drop (common_prefix before path) path) p, length-drop (common_prefix before path) path)
+
+-- the table by counts that are those of a list of paths
+pub chosen_by : (count : Pair → ℕ) (paths : List (List ℕ)) → ((p : Pair) → count p ≡ times (counted paths) p) → chosen count ≡ table_for paths
+chosen_by count paths same = ap chosen (λ i p. same p i)

@@ -64,6 +64,7 @@ word_value bytes =
     if is_in_range big then Some big else
     None
 
+-- The value of a count. A word that is out of range has none and is no count, so its 0 is never asked for.
 abbrev pub value_of : Count → ℤ
 value_of (Short byte) = pos byte
 value_of (Word bytes) = unwrap_or (word_value bytes) (pos 0)
@@ -114,6 +115,7 @@ pub record IsEntry (table path : List ℕ) (old : ℕ) (count : Count) (units : 
   pub fits : length (text_of table units) ≤ max_path - shared
   pub some : 0 < shared + length (text_of table units)
 
+-- an integer as a number; one below zero is none, and with its 0 no item is allowed
 abbrev pub at_least_zero : ℤ → ℕ
 at_least_zero (pos n) = n
 at_least_zero (negsuc n) = 0
@@ -131,6 +133,7 @@ allowed s i last rest = ⊥
 abbrev pub path_with : List ℕ → ℕ → List ℕ → List ℕ
 path_with path shared rest = take shared path ++ rest
 
+-- What the items leave with one more. It is asked for an item that is allowed there alone, and says nothing of others.
 abbrev pub after : State → Item → State
 after s (TableItem table) = After table [] 0
 after AtStart (PathItem count units) = AtStart

@@ -1,7 +1,7 @@
 //! How often each pair of bytes comes.
-ghost use Rattle.std.specs.Prelude.{◌≡◌, ◌+◌, ◌<◌, ◌≤◌, ◌^◌, [], ◌∷◌, length, filter, IfOk, IfSome, MatchOption, IsTrue, ◌↔◌, ℕ};
+ghost use Rattle.std.specs.Prelude.{◌≡◌, ◌+◌, ◌<◌, ◌≤◌, ◌^◌, [], ◌∷◌, length, filter, map, sum_by, IfOk, IfSome, MatchOption, IsTrue, ◌↔◌, ℕ};
 ghost use Rattle.bigram_db.specs.Pairs.{Pair};
-ghost use Rattle.bigram_db.specs.Chosen.{is_counted as counted_pair, counted_in, counted_behind, times, chosen};
+ghost use Rattle.bigram_db.specs.Chosen.{is_counted as counted_pair, counted_in, counted_behind, times, chosen, table_for};
 ghost use Rattle.bigram_db.specs.Counts.{times_of, index_of, ComesFirst, IsAfter, IsNextIn, IsNoneNext};
 
 use crate::table::{PairTable, is_plain};
@@ -62,6 +62,22 @@ impl PairCounts {
             last = Some(next);
         }
         PairTable::new(bytes)
+    }
+}
+
+impl PairTable {
+    /// The table for a list of paths of fewer than 2^63 bytes in all, each counted behind the one before it.
+    pub fn for_paths(alloc: Global, paths: &[&[u8]]) -> Result<PairTable, AllocError>
+        requires { sum_by length (map (λ p. p.now) paths.now) < 2 ^ 63 }
+        ensures { IfOk result (λ t. t ≡ table_for (map (λ p. p.now) paths.now)) }
+    {
+        let mut counts = PairCounts::new(alloc)?;
+        let mut before = b"".as_slice();
+        for path in paths {
+            counts.add(before, path);
+            before = path;
+        }
+        Ok(counts.choose_table())
     }
 }
 

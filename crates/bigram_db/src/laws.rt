@@ -9,7 +9,7 @@ ghost use Rattle.byte_feed.specs.Paths.{contents, IsPath, PathAt, GivesWhole};
 ghost use Rattle.bigram_db.specs.Pairs.{Pair, is_table, is_bigram};
 ghost use Rattle.bigram_db.specs.Items.{AtStart, Item, State, allowed, item_at, bigram, may_end, spell};
 ghost use Rattle.bigram_db.specs.Spelled.{SpellsBigram, encode_with};
-ghost use Rattle.bigram_db.specs.Chosen.{is_counted, comes_before, ranked, table_for, encode_bigram, counted, counted_behind, path_before, times};
+ghost use Rattle.bigram_db.specs.Chosen.{is_counted, comes_before, ranked, table_for, encode_bigram, counted, counted_behind, path_before, times, chosen};
 ghost use Rattle.bigram_db.specs.Writer.{WriterState, after_all, after_put, nothing_put, piece};
 
 /// The front of a file is its longest list of whole items from byte 0 on, each allowed after those before it and before
@@ -21,8 +21,9 @@ pub fn front_is_longest()
     ensures unique { (last : Bool) (s : State) (i j : Item) (a b : List ℕ) → allowed s i last a → allowed s j last b → spell i ++ a ≡ spell j ++ b → (i ≡ j) × (a ≡ b) }
 {}
 
-/// A rule of an item that is broken where more bytes may follow stays the cause of damage whatever bytes follow. A file
-/// is cut short where some bytes more would be read on. It ends whole where it is the spelling of its front, is shorter than the limit, and has its table.
+/// A rule of an item that is broken where more bytes may follow stays the cause of damage whatever bytes follow. Where a
+/// file is cut short, some bytes more make its last item whole, or break another rule of it. It ends whole where it is
+/// the spelling of its front, is shorter than the limit, and has its table.
 pub fn ending_is_first_fault()
     ensures stays { (last : Bool) (s : State) (bytes more : List ℕ) (cause : DamageCause) → (cause ≡ Cut → ⊥) → item_at false s bytes ≡ Err (Broken cause) → item_at last s (bytes ++ more) ≡ Err (Broken cause) }
     ensures cut { (last : Bool) (s : State) (bytes : List ℕ) → item_at last s bytes ≡ Err (Broken Cut) → (more : List ℕ) × IsBytes more × (item_at last s (bytes ++ more) ≡ Err (Broken Cut) → ⊥) }
@@ -56,4 +57,10 @@ pub fn table_is_most_frequent()
     ensures few { (before path : List ℕ) (p : Pair) → 2 * times (counted_behind before path) p ≤ length path }
     ensures one_more { (paths : List (List ℕ)) (path : List ℕ) (p : Pair) → times (counted (paths ++ path ∷ [])) p ≡ times (counted paths) p + times (counted_behind (path_before [] paths) path) p }
     ensures goes_on { (before : List ℕ) (paths : List (List ℕ)) (path : List ℕ) → path_before before (paths ++ path ∷ []) ≡ path }
+{}
+
+/// The table that is chosen by how often each pair comes in a list of paths is that list's. So is the one that
+/// `choose_table` gives after calls of `add` for these paths in turn, each behind the one before it: they count so.
+pub fn counts_choose_table()
+    ensures { (count : Pair → ℕ) (paths : List (List ℕ)) → ((p : Pair) → count p ≡ times (counted paths) p) → chosen count ≡ table_for paths }
 {}

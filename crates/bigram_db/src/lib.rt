@@ -15,8 +15,8 @@ mod writer;
 
 pub use counts::PairCounts;
 pub use laws::{
-    ending_is_first_fault, front_is_longest, paths_are_spelled, table_is_most_frequent,
-    written_is_read_back,
+    counts_choose_table, ending_is_first_fault, front_is_longest, paths_are_spelled,
+    table_is_most_frequent, written_is_read_back,
 };
 pub use reader::ReaderBigram;
 pub use table::PairTable;

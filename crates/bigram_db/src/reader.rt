@@ -70,6 +70,13 @@ impl ReaderBigram {
             place: 0,
         }
     }
+
+    /// The feed of a reader that is not to read on.
+    pub fn into_feed(self) -> Feed
+        ensures { result ≡ self.feed }
+    {
+        self.feed
+    }
 }
 
 impl PathStream for ReaderBigram {

@@ -3,7 +3,7 @@ ghost use Rattle.std.specs.Prelude.{◌<◌, None, ⊤, min};
 ghost use Rattle.loc_outside.specs.Causes.{last_count, stays_below};
 ghost use Rattle.loc_outside.specs.Memory.{fault_count};
 
-use crate::{PairCounts, ReaderBigram, WriterBigram};
+use crate::{PairCounts, PairTable, ReaderBigram, WriterBigram};
 use byte_feed::{Damage, DamageCause, DbFault, Feed, PathStream};
 use loc_outside::{Failed, MemFiles, MemSink, Reader, SliceSource, Source};
 use path_order::PathBuf;
@@ -106,6 +106,17 @@ fn writes_small_databases(rt: HostRuntime) -> Result<(), AllocError> {
         assert_eq!(rt; sink.taken().len(), 257);
         assert!(rt; expected.starts_with(sink.taken()));
     }
+    Ok(())
+}
+
+#[test]
+fn counts_a_list_of_paths(rt: HostRuntime) -> Result<(), AllocError> {
+    // `/usr` has the pairs `/u` and `sr`, and what is left of each later path the pair `/u` and an odd byte.
+    let table = PairTable::for_paths(rt.alloc(), &[b"/usr", b"/usr/us", b"/us/us"])?;
+    assert!(rt; table.bytes().starts_with(b"/usr\0\0"));
+    // Behind `zz` the pair `zz` comes once, and `sr` no more often: the smaller one goes first.
+    let table = PairTable::for_paths(rt.alloc(), &[b"zzsr", b"zz"])?;
+    assert!(rt; table.bytes().starts_with(b"srzz\0\0"));
     Ok(())
 }
 

@@ -3,7 +3,7 @@ ghost use Rattle.std.specs.Prelude.{◌≡◌, ◌+◌, ◌*◌, ◌≤◌, ◌+
 ghost use Rattle.std.specs.Io.KnownBytes.{Appends};
 ghost use Rattle.arrayvec.specs.ArrayVec.{array_vec_len};
 ghost use Rattle.loc_outside.specs.Causes.{HasCause};
-ghost use Rattle.loc_outside.specs.Outside.{AppendsPart};
+ghost use Rattle.loc_outside.specs.Outside.{AppendsShort};
 ghost use Rattle.byte_feed.specs.Paths.{IsPath};
 ghost use Rattle.bigram_db.specs.Items.{spell_count, spell_units, spell_unit};
 ghost use Rattle.bigram_db.specs.Spelled.{count_between, units_for, single, word_of};
@@ -52,10 +52,10 @@ impl WriterBigram {
         }
     }
 
-    /// Writes the table, and forgets what was written before. After `Failed` a first part of it was taken.
+    /// Writes the table, and forgets what was written before. After `Failed` a first part of it was taken, and not all.
     pub fn start<K: Sink>(&mut self, sink: &mut K) -> Result<(), Failed>
         ensures ok { OnOk result (Appends (K.taken sink.old) (K.taken sink.new) self.old.table) }
-        ensures err { OnErr result (AppendsPart (K.taken sink.old) (K.taken sink.new) self.old.table) }
+        ensures err { OnErr result (AppendsShort (K.taken sink.old) (K.taken sink.new) self.old.table) }
         ensures forgets { self.new ≡ nothing_put self.old.table }
         ensures cause { HasCause (K.faults sink.old) (K.faults sink.new) result }
         ensures kept { K.kept sink.old sink.new }
@@ -67,11 +67,11 @@ impl WriterBigram {
 
     /// Writes the entry of a path of 1 to 4,096 bytes, none of them zero: it shares the longest prefix with the path
     /// before, and the rest is written in pairs of the table where it has them. After `Failed` a first part of the entry
-    /// was taken, and no further path is to be written.
+    /// was taken, and not all; no further path is to be written then.
     pub fn put<K: Sink>(&mut self, path: &[u8], sink: &mut K) -> Result<(), Failed>
         requires path { IsPath path.now }
         ensures ok { OnOk result (Appends (K.taken sink.old) (K.taken sink.new) (piece self.old path.now)) }
-        ensures err { OnErr result (AppendsPart (K.taken sink.old) (K.taken sink.new) (piece self.old path.now)) }
+        ensures err { OnErr result (AppendsShort (K.taken sink.old) (K.taken sink.new) (piece self.old path.now)) }
         ensures after { self.new ≡ after_put self.old path.now }
         ensures cause { HasCause (K.faults sink.old) (K.faults sink.new) result }
         ensures kept { K.kept sink.old sink.new }

@@ -83,3 +83,16 @@ one_more = (refl, refl)
 long_form : reads (four ++ 128 ∷ 255 ∷ 251 ∷ 120 ∷ 0 ∷ []) (src ∷ aardvark ∷ armadillo ∷ zoo ∷ (120 ∷ []) ∷ []) (Ok tt)
 unfolding rest_of items_of items_within ended_at long_at entry_from word
 long_form = (refl, refl)
+
+-- A change that is cut off counts as cut also where no byte behind it would make it good.
+hopeless_change : reads (four ++ 128 ∷ 127 ∷ []) (src ∷ aardvark ∷ armadillo ∷ zoo ∷ []) (damaged 58 Cut)
+unfolding rest_of items_of items_within ended_at long_at entry_from
+hopeless_change = (refl, refl)
+
+hopeless_low : reads (four ++ 128 ∷ 127 ∷ 0 ∷ []) (src ∷ aardvark ∷ armadillo ∷ zoo ∷ []) (damaged 58 BadCount)
+unfolding rest_of items_of items_within ended_at long_at entry_from
+hopeless_low = (refl, refl)
+
+hopeless_high : reads (four ++ 128 ∷ 127 ∷ 255 ∷ []) (src ∷ aardvark ∷ armadillo ∷ zoo ∷ []) (damaged 58 BadCount)
+unfolding rest_of items_of items_within ended_at long_at entry_from
+hopeless_high = (refl, refl)

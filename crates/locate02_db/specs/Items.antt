@@ -68,6 +68,7 @@ pub record IsEntry (path : List ℕ) (old : ℕ) (change : Change) (remainder : 
   pub plain : IsPlain (max_path - shared) remainder
   pub some : 0 < shared + length remainder
 
+-- an integer as a number; one below zero is none, and with its 0 no item is allowed
 abbrev pub at_least_zero : ℤ → ℕ
 at_least_zero (pos n) = n
 at_least_zero (negsuc n) = 0
@@ -85,6 +86,7 @@ allowed s i = ⊥
 abbrev pub path_with : List ℕ → ℕ → List ℕ → List ℕ
 path_with path shared remainder = take shared path ++ remainder
 
+-- What the items leave with one more. It is asked for an item that is allowed there alone, and says nothing of others.
 abbrev pub after : State → Item → State
 after AtStart i = After [] 0
 after (After path old) BeginItem = After path old

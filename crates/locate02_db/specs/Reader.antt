@@ -31,7 +31,7 @@ abbrev pub is_done : Stage → Bool
 is_done stages.Done = true
 is_done stage = false
 
--- what the items so far leave
+-- what the items so far leave; nobody asks it of a reader that is done
 abbrev pub state_by : Stage → List ℕ → ℕ → State
 state_by stages.Fresh path shared = AtStart
 state_by stages.Live path shared = After path shared

@@ -19,7 +19,7 @@ returns-clause-told g c =
       all = e.all;
       bound = e.bound;
     } in
-    rw (c.told_by.ensures, c.ahead.ensures) (format_told _ _ _ _ _ e.took looks)
+    rw (c.read_by.ensures, c.ahead.ensures) (format_told _ _ _ _ _ e.took looks)
 
 pub returns-clause-rest : goal.returns-clause-rest
 returns-clause-rest g c =
@@ -31,7 +31,7 @@ returns-clause-rest g c =
       all = e.all;
       bound = e.bound;
     } in
-    rw (c.told_by.ensures, c.ahead.ensures) (rest_told _ _ _ _ _ e.took looks)
+    rw (c.read_by.ensures, c.ahead.ensures) (rest_told _ _ _ _ _ e.took looks)
 
 pub returns-clause-first : goal.returns-clause-first
 returns-clause-first g c =
@@ -43,4 +43,4 @@ returns-clause-first g c =
       all = e.all;
       bound = e.bound;
     } in
-    rw (c.told_by.ensures, c.ahead.ensures) (beginning_told _ _ _ _ _ e.took looks)
+    rw (c.read_by.ensures, c.ahead.ensures) (beginning_told _ _ _ _ _ e.took looks)

@@ -24,14 +24,14 @@ returns-in-Locate02-clause-refused g c = rw c.in-Locate02.is (rw c.on-reader-in-
 pub returns-in-Locate02-clause-err : goal.returns-in-Locate02-clause-err
 returns-in-Locate02-clause-err g c = rw c.in-Locate02.is (rw c.on-reader-in-Locate02.ensures at c.begin_paths-begun-in-Locate02.ensures.err)
 
-pub returns-in-Bigram-clause-begun : goal.returns-in-Bigram-clause-begun
-returns-in-Bigram-clause-begun g c = rw c.in-Bigram.is (rw c.on-reader-in-Bigram.ensures at c.begin_paths-begun-in-Bigram.ensures.begun)
+pub returns-in-Ok-clause-begun : goal.returns-in-Ok-clause-begun
+returns-in-Ok-clause-begun g c = rw c.in-Bigram.is (rw c.on-reader-in-Bigram.ensures at c.in-Ok.ensures.begun)
 
-pub returns-in-Bigram-clause-ok : goal.returns-in-Bigram-clause-ok
-returns-in-Bigram-clause-ok g c = rw c.in-Bigram.is (rw c.on-reader-in-Bigram.ensures at c.begin_paths-begun-in-Bigram.ensures.ok)
+pub returns-in-Ok-clause-ok : goal.returns-in-Ok-clause-ok
+returns-in-Ok-clause-ok g c = rw c.in-Bigram.is (rw c.on-reader-in-Bigram.ensures at c.in-Ok.ensures.ok)
 
-pub returns-in-Bigram-clause-refused : goal.returns-in-Bigram-clause-refused
-returns-in-Bigram-clause-refused g c = rw c.in-Bigram.is (rw c.on-reader-in-Bigram.ensures at c.begin_paths-begun-in-Bigram.ensures.refused)
+pub returns-in-Err-clause-refused : goal.returns-in-Err-clause-refused
+returns-in-Err-clause-refused g c = rw c.in-Bigram.is (rw c.on-reader-in-Bigram.ensures at c.in-Err.ensures.refused)
 
-pub returns-in-Bigram-clause-err : goal.returns-in-Bigram-clause-err
-returns-in-Bigram-clause-err g c = rw c.in-Bigram.is (rw c.on-reader-in-Bigram.ensures at c.begin_paths-begun-in-Bigram.ensures.err)
+pub returns-in-Err-clause-err : goal.returns-in-Err-clause-err
+returns-in-Err-clause-err g c = rw c.in-Bigram.is (rw c.on-reader-in-Bigram.ensures at c.in-Err.ensures.err)

@@ -31,7 +31,7 @@ returns-clause-err g c =
     let is : n ≡ common_prefix s.path c.args.path.now = rw c.bytes.ensures.value at c.common_prefix-shared.ensures.value in
     let rest : List ℕ = spell_units (units_for s.table (take (length c.args.path.now - n) (drop n c.args.path.now))) in
     let whole = piece_is s.table s.path c.args.path.now c.as_slice.result.now s.shared n is (c.as_slice.ensures.value ∙ c.push_units.ensures ∙ ap (λ (l : List ℕ). l ++ rest) c.push_count.ensures.bytes) in
-    let put = rw whole at c.put_all.ensures.err in
+    let put = rw whole at c.put_all.ensures.short in
     rw (← c.self.view_is) put
 
 on_ok : {A E : Type 0} (r : Result A E) (P : Type 0) → IsOk r → OnOk r P → P
