@@ -295,11 +295,11 @@ once_by f g g' file left result drawn whole large =
     record {
       most = omega (arith, drawn.count, drawn.rest.0);
       whole = λ is.
-      let all : n ≡ length file = omega (arith, drawn.rest.0, ap length drawn.rest.1, ap length (drawn.ends refl (whole is)), length-drop n file) in
-      drawn.count ∙ ap (raised g) all;
+          let all : n ≡ length file = omega (arith, drawn.rest.0, ap length drawn.rest.1, ap length (drawn.ends refl (whole is)), length-drop n file) in
+          drawn.count ∙ ap (raised g) all;
       too_large = λ is.
-      let all : n ≡ 2 ^ 40 = omega (arith, large is) in
-      drawn.count ∙ ap (raised g) all;
+          let all : n ≡ 2 ^ 40 = omega (arith, large is) in
+          drawn.count ∙ ap (raised g) all;
     }
 
 once_drawn : (f : FeedState) (g g' : ℕ) (l l' : Option (List ℕ)) (result : Outcome) → Draws (empty_at 0) f g g' l l' → (result ≡ outcomes.Whole → f.ended ≡ true) → (result ≡ outcomes.TooLarge → reach f ≡ 2 ^ 40) → IfSome l (λ file. ReadsOnce file g g' result)

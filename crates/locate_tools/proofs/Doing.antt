@@ -14,7 +14,7 @@ use Rattle.locate_tools.specs.declared.answer.Cause.{Cause}
 use Rattle.locate_tools.specs.declared.answer.Cause.TheVariants as causes
 use Rattle.locate_tools.specs.declared.answer.Ending.{Ending}
 use Rattle.locate_tools.specs.Calls.{CallMade, request_of, tool_called}
-use Rattle.locate_tools.specs.Does.{Does, Leaves, LeavesLocate, Locates, Refuses, UpdatesDb, Works, known_in, standing_in}
+use Rattle.locate_tools.specs.Does.{Does, Leaves, LeavesLocate, RunsLocate, Refuses, RunsUpdatedb, Works, known_in, standing_in}
 use Rattle.locate_tools.specs.Located.{databases_of}
 use Rattle.locate_tools.specs.Ran.{LocateRun}
 use Rattle.locate_tools.specs.Standing.{Standing}
@@ -51,10 +51,10 @@ works_memory (Some (Locate asked)) now before ending after is outcomes standing 
 works_memory (Some (Convert asked)) now before ending after is outcomes standing around = record { cause = inr is; outcomes = outcomes }
 works_memory (Some (Exercise asked)) now before ending after is outcomes standing around = record { cause = inr is; outcomes = outcomes }
 
-pub works_locate : (r : Option Asked) (asked : LocateAsked) (now : Moment) (before : Snapshot) (ending : Ending) (after : Snapshot) → r ≡ Some (Locate asked) → Locates asked before ending after → Works r now before ending after
+pub works_locate : (r : Option Asked) (asked : LocateAsked) (now : Moment) (before : Snapshot) (ending : Ending) (after : Snapshot) → r ≡ Some (Locate asked) → RunsLocate asked before ending after → Works r now before ending after
 works_locate r asked now before ending after is done = subst (λ (x : Option Asked). Works x now before ending after) (sym is) done
 
-pub works_updatedb : (r : Option Asked) (asked : UpdatedbAsked) (now : Moment) (before : Snapshot) (ending : Ending) (after : Snapshot) → r ≡ Some (Updatedb asked) → UpdatesDb asked now before ending after → Works r now before ending after
+pub works_updatedb : (r : Option Asked) (asked : UpdatedbAsked) (now : Moment) (before : Snapshot) (ending : Ending) (after : Snapshot) → r ≡ Some (Updatedb asked) → RunsUpdatedb asked now before ending after → Works r now before ending after
 works_updatedb r asked now before ending after is done = subst (λ (x : Option Asked). Works x now before ending after) (sym is) done
 
 -- ---- the whole of it
@@ -83,7 +83,7 @@ does_by call before ending after text works status same tells part passed files 
 pub leaves_all : (r : Option Asked) (cause : Cause) (reader tree gate output out : Type 0) → reader → tree → gate → output → out → Leaves r cause reader tree gate output out
 leaves_all None cause reader tree gate output out r t g o p = (r, t, g, o, p)
 leaves_all (Some (Updatedb asked)) cause reader tree gate output out r t g o p = g
-leaves_all (Some (Locate asked)) cause reader tree gate output out r t g o p = record { tree = t; output = o; unopened = λ _. (r, g, p); unasked = λ _. (r, g) }
+leaves_all (Some (Locate asked)) cause reader tree gate output out r t g o p = record { tree_same = t; output_same = o; unopened = λ _. (r, g, p); unasked = λ _. (r, g) }
 leaves_all (Some (Convert asked)) cause reader tree gate output out r t g o p = (r, t, g, o, p)
 leaves_all (Some (Exercise asked)) cause reader tree gate output out r t g o p = (r, t, g, o, p)
 

@@ -1,6 +1,6 @@
 -- Causes of `updatedb` and faults of an update.
 use Rattle.std.specs.Prelude.{IsTrue}
-use Rattle.std.proofs.Common.{◌≡◌, Option, Some, None, ◌⊎◌, inl, inr, refl, sym, ap, subst, ◌∙◌, arith}
+use Rattle.std.proofs.Common.{◌≡◌, ℕ, Bool, true, false, List, Option, Some, None, ◌⊎◌, inl, inr, refl, sym, ap, subst, ◌∙◌, arith}
 use Rattle.database_update.specs.declared.settings_file.SettingsFile.TheVariants.{Configuration, Mounts}
 use Rattle.database_update.specs.declared.fault.UpdateFault.{UpdateFault}
 use Rattle.database_update.specs.declared.fault.UpdateFault.TheVariants as faults

@@ -36,20 +36,20 @@ pub record Refuses (ending : Ending) : Type 0 where
   pub outcomes : ending.outcomes ≡ []
 
 -- They ask for a search of databases, or for their statistics.
-pub record Locates (asked : LocateAsked) (before : Snapshot) (ending : Ending) (after : Snapshot) : Type 0 where
+pub record RunsLocate (asked : LocateAsked) (before : Snapshot) (ending : Ending) (after : Snapshot) : Type 0 where
   pub run : LocateRun asked (known_in before) (standing_in before) (standing_in after) ending.outcomes ending.cause
   pub accepted : ending.cause ≡ causes.Usage → ⊥
 
 -- They ask for a database of a tree.
-pub record UpdatesDb (asked : UpdatedbAsked) (now : Moment) (before : Snapshot) (ending : Ending) (after : Snapshot) : Type 0 where
+pub record RunsUpdatedb (asked : UpdatedbAsked) (now : Moment) (before : Snapshot) (ending : Ending) (after : Snapshot) : Type 0 where
   pub run : UpdatedbRun asked now (around_in before) (around_in after) ending.cause
   pub accepted : ending.cause ≡ causes.Usage → ⊥
   pub outcomes : ending.outcomes ≡ []
 
 abbrev pub Works : Option Asked → Moment → Snapshot → Ending → Snapshot → Type 0
 Works None now before ending after = Refuses ending
-Works (Some (Locate asked)) now before ending after = Locates asked before ending after
-Works (Some (Updatedb asked)) now before ending after = UpdatesDb asked now before ending after
+Works (Some (Locate asked)) now before ending after = RunsLocate asked before ending after
+Works (Some (Updatedb asked)) now before ending after = RunsUpdatedb asked now before ending after
 -- No words ask for these yet (`built`).
 Works (Some (Convert asked)) now before ending after = Refuses ending
 Works (Some (Exercise asked)) now before ending after = Refuses ending
@@ -71,8 +71,8 @@ pub record Does (call : CallMade) (before : Snapshot) (ending : Ending) (after :
 -- `locate` does not touch the reader, the gate and standard output where memory ran out, nor the first two where the limit
 -- is 0; never the tree and the output.
 pub record LeavesLocate (asked : LocateAsked) (cause : Cause) (reader tree gate output out : Type 0) : Type 0 where
-  pub tree : tree
-  pub output : output
+  pub tree_same : tree
+  pub output_same : output
   pub unopened : cause ≡ causes.OutOfMemory → reader × gate × out
   pub unasked : databases_of asked ≡ [] → reader × gate
 

@@ -33,7 +33,7 @@ pub returns-in-Locate-clause-leaves : goal.returns-in-Locate-clause-leaves
 returns-in-Locate-clause-leaves g c =
     let said = c.run_locate.ensures in
     let asks = rw c.in-Locate.is at c.in-Ok.ensures.accepted in
-    leaves_locate _ (locate_seen c.in-Locate.asked) _ _ _ _ _ _ asks (record { tree = refl; output = refl; unopened = said.unopened; unasked = said.none })
+    leaves_locate _ (locate_seen c.in-Locate.asked) _ _ _ _ _ _ asks (record { tree_same = refl; output_same = refl; unopened = said.unopened; unasked = said.none })
 
 pub returns-in-Updatedb-clause-does : goal.returns-in-Updatedb-clause-does
 returns-in-Updatedb-clause-does g c =
