@@ -1,7 +1,9 @@
-use Rattle.std.proofs.Common.{◌≡◌, Option, Some, refl, sym, ap, ◌∙◌}
+use Rattle.std.specs.Prelude.{Err}
+use Rattle.std.proofs.Common.{◌≡◌, [], Option, Some, refl, sym, ap, ◌∙◌}
 use Rattle.tool_words.specs.LocateSeen.{seen as locate_seen}
 use Rattle.tool_words.specs.UpdatedbSeen.{seen as updatedb_seen}
 use Rattle.tool_words.specs.declared.tool.Tool.{Tool}
+use Rattle.locate_tools.specs.Calls.{tool_called}
 use Rattle.locate_tools.specs.Statuses.{status_of}
 use Rattle.locate_tools.specs.declared.answer.Cause.TheVariants as causes
 use Rattle.locate_tools.proofs.Doing.{does_by, leaves_all, leaves_locate, leaves_updatedb, told_by, works_locate, works_memory, works_refused, works_updatedb}
@@ -9,10 +11,21 @@ use Rattle.locate_tools.proofs.ToldOf.{told_locate, told_memory, told_refused, t
 use Rattle.locate_tools.proofs.run.run.Goals as goal
 
 pub returns-in-Err-Usage-clause-does : goal.returns-in-Err-Usage-clause-does
-returns-in-Err-Usage-clause-does g c = ?
+returns-in-Err-Usage-clause-does g c =
+    let said = c.ended.ensures in
+    let none = c.in-Err-Usage.ensures.refused (ap Err c.in-Err-Usage.field-0-is) in
+    does_by c.args.call.now _ c.ended.result _ _ (works_refused _ _ _ _ _ none said.cause said.outcomes)
+    (said.status ∙ sym (ap (status_of (tool_called c.args.call.now)) said.cause))
+    (told_refused c.args.call.now c.tool.result causes.Usage c.tool.ensures none ∙ told_by c.args.call.now [] c.ended.result.outcomes causes.Usage c.ended.result.cause said.outcomes said.cause)
+    said.told said.told_part (λ sound out. out) refl said.err_later
 
 pub returns-in-Err-OutOfMemory-clause-does : goal.returns-in-Err-OutOfMemory-clause-does
-returns-in-Err-OutOfMemory-clause-does g c = ?
+returns-in-Err-OutOfMemory-clause-does g c =
+    let said = c.ended-in-Err-OutOfMemory.ensures in
+    does_by c.args.call.now _ c.ended-in-Err-OutOfMemory.result _ _ (works_memory _ _ _ _ _ said.cause said.outcomes refl refl)
+    (said.status ∙ sym (ap (status_of (tool_called c.args.call.now)) said.cause))
+    (told_memory c.args.call.now c.tool-in-Err-OutOfMemory.result c.tool-in-Err-OutOfMemory.ensures ∙ told_by c.args.call.now [] c.ended-in-Err-OutOfMemory.result.outcomes causes.OutOfMemory c.ended-in-Err-OutOfMemory.result.cause said.outcomes said.cause)
+    said.told said.told_part (λ sound out. out) refl said.err_later
 
 pub returns-in-Err-Usage-clause-leaves : goal.returns-in-Err-Usage-clause-leaves
 returns-in-Err-Usage-clause-leaves g c = leaves_all _ _ _ _ _ _ _ refl refl refl refl refl
