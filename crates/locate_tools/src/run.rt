@@ -147,17 +147,49 @@ pub fn run<R: Reader, T: Tree, G: Gate, O: Output, P: BufferedSink, E: Sink>(
     err: &mut E,
 ) -> Ending
     ensures does { Does call.now
-        (record { files = R.files reader.old; given = R.given reader.old; reads_failed = R.faults reader.old;
-            dirs = T.dirs tree.old; openings = T.openings tree.old; stats = T.stats tree.old; priced = T.priced tree.old; tree_failed = T.faults tree.old;
-            tests = G.tests gate.old; asks = G.asks gate.old; gate_failed = G.faults gate.old;
-            held = O.held output.old; begins = O.begins output.old; output_failed = O.faults output.old;
-            taken = P.taken out.old; held_back = P.held_back out.old; writes_failed = P.faults out.old; err_taken = E.taken err.old; err_failed = E.faults err.old })
+        (record {
+          files = R.files reader.old;
+          given = R.given reader.old;
+          reads_failed = R.faults reader.old;
+          dirs = T.dirs tree.old;
+          openings = T.openings tree.old;
+          stats = T.stats tree.old;
+          priced = T.priced tree.old;
+          tree_failed = T.faults tree.old;
+          tests = G.tests gate.old;
+          asks = G.asks gate.old;
+          gate_failed = G.faults gate.old;
+          held = O.held output.old;
+          begins = O.begins output.old;
+          output_failed = O.faults output.old;
+          taken = P.taken out.old;
+          held_back = P.held_back out.old;
+          writes_failed = P.faults out.old;
+          err_taken = E.taken err.old;
+          err_failed = E.faults err.old;
+        })
         result
-        (record { files = R.files reader.new; given = R.given reader.new; reads_failed = R.faults reader.new;
-            dirs = T.dirs tree.new; openings = T.openings tree.new; stats = T.stats tree.new; priced = T.priced tree.new; tree_failed = T.faults tree.new;
-            tests = G.tests gate.new; asks = G.asks gate.new; gate_failed = G.faults gate.new;
-            held = O.held output.new; begins = O.begins output.new; output_failed = O.faults output.new;
-            taken = P.taken out.new; held_back = P.held_back out.new; writes_failed = P.faults out.new; err_taken = E.taken err.new; err_failed = E.faults err.new }) }
+        (record {
+          files = R.files reader.new;
+          given = R.given reader.new;
+          reads_failed = R.faults reader.new;
+          dirs = T.dirs tree.new;
+          openings = T.openings tree.new;
+          stats = T.stats tree.new;
+          priced = T.priced tree.new;
+          tree_failed = T.faults tree.new;
+          tests = G.tests gate.new;
+          asks = G.asks gate.new;
+          gate_failed = G.faults gate.new;
+          held = O.held output.new;
+          begins = O.begins output.new;
+          output_failed = O.faults output.new;
+          taken = P.taken out.new;
+          held_back = P.held_back out.new;
+          writes_failed = P.faults out.new;
+          err_taken = E.taken err.new;
+          err_failed = E.faults err.new;
+        }) }
     ensures leaves { Leaves (request_of call.now) result.cause (reader.new ≡ reader.old) (tree.new ≡ tree.old) (gate.new ≡ gate.old) (output.new ≡ output.old) (out.new ≡ out.old) }
     ensures tree_kept { T.kept tree.old tree.new }
     ensures gate_kept { G.kept gate.old gate.new }
