@@ -154,8 +154,9 @@ goes_on (Ok steps.End) = false
 goes_on (Ok step) = true
 goes_on (Err fault) = false
 
--- What a step leaves, whatever it answers. The place moves on where an item was read, and stays where none was. Without
--- a fault the feed stands there. The header's version and flag stay the same.
+-- What a step leaves besides. Its place moves on just where an item was read, and unless a fault came the feed stands
+-- there; after a fault it stands no further than the longest head reaches, 4,113 bytes. The header's version and flag stay
+-- the same.
 pub record Stepped {E : Type 0} (result : Result Step E) (r r' : ReaderState) : Type 0 where
   pub grows : IsTrue (goes_on result) → r.place < r'.place
   pub stays : goes_on result ≡ false → r'.place ≡ r.place
@@ -196,17 +197,17 @@ StartKnown (Ok same) r (Some l) r' None root block = ⊥
 StartKnown (Ok same) r (Some l) r' (Some l') root block = Starts r l r' l' root block same
 StartKnown (Err fault) r left r' left' root block = EndsKnown (rest_left r) (no_items mlocate r.place) r.feed left left' (Err fault)
 
--- What a start leaves, whatever it answers. Where a header was read the place moves on to its end, and a head comes next;
--- where none was, the place stays. Nothing was read before, and no head is read.
+-- What a start leaves besides. Nothing was read before it, and it reads no head. Where the header is whole, the place
+-- moves to its end, the feed stands there, and a head is read next; else the place stays.
 pub record Started {A E : Type 0} (result : Result A E) (r r' : ReaderState) : Type 0 where
-  pub grows : OnOk result (r.place < r'.place)
-  pub stays : OnErr result (r'.place ≡ r.place)
-  pub at : OnOk result (r'.feed.offset ≡ r'.place)
-  pub between : OnOk result (r'.stage ≡ stages.Between)
-  pub spent : is_fresh r'.stage ≡ false
-  pub bound : r'.place ≤ 2 ^ 40
   pub place_before : r.place ≡ 0
   pub heads_before : r.heads ≡ 0
   pub heads : r'.heads ≡ r.heads
+  pub grows : OnOk result (r.place < r'.place)
+  pub at : OnOk result (r'.feed.offset ≡ r'.place)
+  pub between : OnOk result (r'.stage ≡ stages.Between)
+  pub stays : OnErr result (r'.place ≡ r.place)
+  pub spent : is_fresh r'.stage ≡ false
+  pub bound : r'.place ≤ 2 ^ 40
   pub stamp : r'.stamp ≡ r.stamp
   pub device : r'.device ≡ r.device

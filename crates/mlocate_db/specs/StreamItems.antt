@@ -9,7 +9,7 @@ use Rattle.mlocate_db.specs.declared.item.Listed.{Listed}
 use Rattle.mlocate_db.specs.declared.item.Listed.TheVariants as listeds
 use Rattle.mlocate_db.specs.Items.{Item, EntryItem, EndItem, header_at, as_header, in_directory, room_in}
 
--- Just the bytes that the feed came to hold were asked of the source. It holds at most 4,096 ahead, and none past 2^40.
+-- Just the bytes that the feed came to hold were drawn from the source. At most 4,096 lie ahead, and none past 2^40.
 pub record ReadsAhead (f f' : FeedState) (given given' : ℕ) (left left' : Option (List ℕ)) : Type 0 where
   pub drawn : Draws f f' given given' left left'
   pub held : length f'.held ≤ 4096

@@ -105,9 +105,9 @@ impl DbReader {
         ensures header { HeaderGives result self.old (S.left src.old) self.new (S.left src.new) }
         ensures live { is_live self.new.stage ≡ is_ok result }
         ensures stops { IfErr result (λ e. StopsAt self.new.feed self.new.place (Err e)) }
+        ensures fault { IsErrOf result DbFault.ReadFault → Rose (S.faults src.old) (S.faults src.new) }
         ensures started { Started result self.old self.new }
         ensures ahead { ReadsAhead self.old.feed self.new.feed (S.given src.old) (S.given src.new) (S.left src.old) (S.left src.new) }
-        ensures fault { IsErrOf result DbFault.ReadFault → Rose (S.faults src.old) (S.faults src.new) }
         ensures later { S.faults src.old ≤ S.faults src.new }
         ensures kept { S.kept src.old src.new }
     {
@@ -129,9 +129,9 @@ impl DbReader {
         ensures header { StartKnown result self.old (S.left src.old) self.new (S.left src.new) root.now block.now }
         ensures live { is_live self.new.stage ≡ is_ok result }
         ensures stops { IfErr result (λ e. StopsAt self.new.feed self.new.place (Err e)) }
+        ensures fault { IsErrOf result DbFault.ReadFault → Rose (S.faults src.old) (S.faults src.new) }
         ensures started { Started result self.old self.new }
         ensures ahead { ReadsAhead self.old.feed self.new.feed (S.given src.old) (S.given src.new) (S.left src.old) (S.left src.new) }
-        ensures fault { IsErrOf result DbFault.ReadFault → Rose (S.faults src.old) (S.faults src.new) }
         ensures later { S.faults src.old ≤ S.faults src.new }
         ensures kept { S.kept src.old src.new }
     {
@@ -159,9 +159,9 @@ impl DbReader {
         ensures live { is_live self.new.stage ≡ goes_on result }
         ensures whole { result ≡ Ok Step.End → StopsAt self.new.feed self.new.place (Ok tt) }
         ensures stops { IfErr result (λ e. StopsAt self.new.feed self.new.place (Err e)) }
+        ensures fault { IsErrOf result DbFault.ReadFault → Rose (S.faults src.old) (S.faults src.new) }
         ensures stepped { Stepped result self.old self.new }
         ensures ahead { ReadsAhead self.old.feed self.new.feed (S.given src.old) (S.given src.new) (S.left src.old) (S.left src.new) }
-        ensures fault { IsErrOf result DbFault.ReadFault → Rose (S.faults src.old) (S.faults src.new) }
         ensures later { S.faults src.old ≤ S.faults src.new }
         ensures kept { S.kept src.old src.new }
     {
@@ -180,9 +180,9 @@ impl DbReader {
         ensures live { is_live self.new.stage ≡ goes_on result }
         ensures whole { result ≡ Ok Step.End → (self.new.feed.held ≡ []) × (self.new.feed.ended ≡ true) }
         ensures broke { BreaksAt self.new.feed result }
+        ensures fault { IsFault result → Rose (S.faults src.old) (S.faults src.new) }
         ensures stepped { Stepped result self.old self.new }
         ensures ahead { ReadsAhead self.old.feed self.new.feed (S.given src.old) (S.given src.new) (S.left src.old) (S.left src.new) }
-        ensures fault { IsFault result → Rose (S.faults src.old) (S.faults src.new) }
         ensures later { S.faults src.old ≤ S.faults src.new }
         ensures kept { S.kept src.old src.new }
     {
@@ -201,9 +201,9 @@ impl DbReader {
         ensures live { is_live self.new.stage ≡ goes_on result }
         ensures whole { result ≡ Ok Step.End → (self.new.feed.held ≡ []) × (self.new.feed.ended ≡ true) }
         ensures broke { BreaksAt self.new.feed result }
+        ensures fault { IsFault result → Rose (S.faults src.old) (S.faults src.new) }
         ensures stepped { Stepped result self.old self.new }
         ensures ahead { ReadsAhead self.old.feed self.new.feed (S.given src.old) (S.given src.new) (S.left src.old) (S.left src.new) }
-        ensures fault { IsFault result → Rose (S.faults src.old) (S.faults src.new) }
         ensures later { S.faults src.old ≤ S.faults src.new }
         ensures kept { S.kept src.old src.new }
     {
@@ -234,9 +234,9 @@ impl DbReader {
         ensures live { is_live self.new.stage ≡ goes_on result }
         ensures whole { result ≡ Ok Step.End → (self.new.feed.held ≡ []) × (self.new.feed.ended ≡ true) }
         ensures broke { BreaksAt self.new.feed result }
+        ensures fault { IsFault result → Rose (S.faults src.old) (S.faults src.new) }
         ensures stepped { Stepped result self.old self.new }
         ensures ahead { ReadsAhead self.old.feed self.new.feed (S.given src.old) (S.given src.new) (S.left src.old) (S.left src.new) }
-        ensures fault { IsFault result → Rose (S.faults src.old) (S.faults src.new) }
         ensures later { S.faults src.old ≤ S.faults src.new }
         ensures kept { S.kept src.old src.new }
     {

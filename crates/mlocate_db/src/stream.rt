@@ -18,8 +18,8 @@ fn read_fixed<S: Source>(feed: &mut Feed, src: &mut S) -> Result<Fixed, Break>
     ensures grows { OnOk result (feed.old.offset ≤ feed.new.offset) }
     ensures near { feed.new.offset ≤ feed.old.offset + 16 }
     ensures broke { BreaksAt feed.new result }
-    ensures ahead { ReadsAhead feed.old feed.new (S.given src.old) (S.given src.new) (S.left src.old) (S.left src.new) }
     ensures fault { IsFault result → Rose (S.faults src.old) (S.faults src.new) }
+    ensures ahead { ReadsAhead feed.old feed.new (S.given src.old) (S.given src.new) (S.left src.old) (S.left src.new) }
     ensures later { S.faults src.old ≤ S.faults src.new }
     ensures kept { S.kept src.old src.new }
 {
@@ -48,8 +48,8 @@ pub(crate) fn read_header<S: Source>(
     ensures header { HeaderKnown block.now root.new feed.old (S.left src.old) feed.new (S.left src.new) result }
     ensures grows { OnOk result (feed.old.offset < feed.new.offset) }
     ensures broke { BreaksAt feed.new result }
-    ensures ahead { ReadsAhead feed.old feed.new (S.given src.old) (S.given src.new) (S.left src.old) (S.left src.new) }
     ensures fault { IsFault result → Rose (S.faults src.old) (S.faults src.new) }
+    ensures ahead { ReadsAhead feed.old feed.new (S.given src.old) (S.given src.new) (S.left src.old) (S.left src.new) }
     ensures later { S.faults src.old ≤ S.faults src.new }
     ensures kept { S.kept src.old src.new }
 {
@@ -75,8 +75,8 @@ fn read_numbers<S: Source>(feed: &mut Feed, src: &mut S) -> Result<Numbers, Brea
     ensures grows { OnOk result (feed.old.offset ≤ feed.new.offset) }
     ensures near { feed.new.offset ≤ feed.old.offset + 16 }
     ensures broke { BreaksAt feed.new result }
-    ensures ahead { ReadsAhead feed.old feed.new (S.given src.old) (S.given src.new) (S.left src.old) (S.left src.new) }
     ensures fault { IsFault result → Rose (S.faults src.old) (S.faults src.new) }
+    ensures ahead { ReadsAhead feed.old feed.new (S.given src.old) (S.given src.new) (S.left src.old) (S.left src.new) }
     ensures later { S.faults src.old ≤ S.faults src.new }
     ensures kept { S.kept src.old src.new }
 {
@@ -106,8 +106,8 @@ pub(crate) fn read_head<S: Source>(
     ensures grows { OnOk result (feed.old.offset < feed.new.offset) }
     ensures near { feed.new.offset ≤ feed.old.offset + 4113 }
     ensures broke { BreaksAt feed.new result }
-    ensures ahead { ReadsAhead feed.old feed.new (S.given src.old) (S.given src.new) (S.left src.old) (S.left src.new) }
     ensures fault { IsFault result → Rose (S.faults src.old) (S.faults src.new) }
+    ensures ahead { ReadsAhead feed.old feed.new (S.given src.old) (S.given src.new) (S.left src.old) (S.left src.new) }
     ensures later { S.faults src.old ≤ S.faults src.new }
     ensures kept { S.kept src.old src.new }
 {
@@ -132,13 +132,13 @@ pub(crate) fn read_entry<S: Source>(
 ) -> Result<Listed, Break>
     requires within { dir_len ≤ length path.old }
     requires dir { IsText 4096 (take dir_len path.old) }
-    ensures item { StreamGives (item_in (take dir_len path.old) path.new) (entry_at (room_in (take dir_len path.old))) feed.old (S.left src.old) feed.new (S.left src.new) result }
+    ensures item { let dir = take dir_len path.old in StreamGives (item_in dir path.new) (entry_at (room_in dir)) feed.old (S.left src.old) feed.new (S.left src.new) result }
     ensures path { IfOk result (λ x. IsPathAfter x dir_len path.old path.new) }
     ensures grows { OnOk result (feed.old.offset < feed.new.offset) }
     ensures near { feed.new.offset ≤ feed.old.offset + 4098 }
     ensures broke { BreaksAt feed.new result }
-    ensures ahead { ReadsAhead feed.old feed.new (S.given src.old) (S.given src.new) (S.left src.old) (S.left src.new) }
     ensures fault { IsFault result → Rose (S.faults src.old) (S.faults src.new) }
+    ensures ahead { ReadsAhead feed.old feed.new (S.given src.old) (S.given src.new) (S.left src.old) (S.left src.new) }
     ensures later { S.faults src.old ≤ S.faults src.new }
     ensures kept { S.kept src.old src.new }
 {
@@ -169,13 +169,13 @@ fn read_name<S: Source>(
 ) -> Result<Listed, Break>
     requires within { dir_len ≤ length path.old }
     requires dir { IsText 4096 (take dir_len path.old) }
-    ensures item { StreamGives (item_in (take dir_len path.old) path.new) (name_at kind (room_in (take dir_len path.old))) feed.old (S.left src.old) feed.new (S.left src.new) result }
+    ensures item { let dir = take dir_len path.old in StreamGives (item_in dir path.new) (name_at kind (room_in dir)) feed.old (S.left src.old) feed.new (S.left src.new) result }
     ensures path { IfOk result (λ x. IsPathAfter x dir_len path.old path.new) }
     ensures grows { OnOk result (feed.old.offset < feed.new.offset) }
     ensures near { feed.new.offset ≤ feed.old.offset + 4097 }
     ensures broke { BreaksAt feed.new result }
-    ensures ahead { ReadsAhead feed.old feed.new (S.given src.old) (S.given src.new) (S.left src.old) (S.left src.new) }
     ensures fault { IsFault result → Rose (S.faults src.old) (S.faults src.new) }
+    ensures ahead { ReadsAhead feed.old feed.new (S.given src.old) (S.given src.new) (S.left src.old) (S.left src.new) }
     ensures later { S.faults src.old ≤ S.faults src.new }
     ensures kept { S.kept src.old src.new }
 {
