@@ -32,7 +32,7 @@ abbrev pub listed_item : Listed → List ℕ → Item
 listed_item (listeds.Entry kind) name = EntryItem kind name
 listed_item listeds.End name = EndItem
 
--- the same, with the path in hand, of a directory whose path is this
+-- the same, whose name stands in this path behind the directory's
 abbrev pub item_in : List ℕ → List ℕ → Listed → Item
 item_in dir path x = listed_item x (drop (length (in_directory dir)) path)
 
