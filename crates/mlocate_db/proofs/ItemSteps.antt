@@ -1,5 +1,5 @@
 -- What a stream gives of mlocate's items, part by part.
-use Rattle.std.proofs.Common.{◌≡◌, ℕ, zero, suc, ◌-◌, ◌<◌, Bool, true, false, cond, eqb, ltb, List, [], ◌∷◌, ◌++◌, length, take, drop, Option, Some, None, Result, Ok, Err, refl, sym, ap, subst, ◌∙◌, append_assoc, arith}
+use Rattle.std.proofs.Common.{◌≡◌, ℕ, zero, suc, ◌-◌, ◌<◌, ◌≤◌, Bool, true, false, cond, eqb, ltb, List, [], ◌∷◌, ◌++◌, length, take, drop, Option, Some, None, Result, Ok, Err, refl, sym, ap, subst, ◌∙◌, append_assoc, length-take, arith}
 use Rattle.std.proofs.lemmas.List.{take_at, take-append-drop}
 use Rattle.path_order.specs.declared.kind.Kind.{Kind}
 use Rattle.path_order.specs.Path.{is_root, joined}
@@ -18,7 +18,7 @@ use Rattle.mlocate_db.specs.declared.item.Numbers.{Numbers}
 use Rattle.mlocate_db.specs.declared.item.Listed.{Listed}
 use Rattle.mlocate_db.specs.declared.item.Listed.TheVariants as listeds
 use Rattle.mlocate_db.specs.Items.{Header, Head, Item, HeaderItem, HeadItem, EntryItem, AtStart, Between, Inside, magic, fixed_at, as_header, header_at, numbers_at, as_head, head_at, name_at, listed_at, entry_at, room_in, in_directory, item_at}
-use Rattle.mlocate_db.specs.StreamItems.{HeaderKnown, listed_item}
+use Rattle.mlocate_db.specs.StreamItems.{HeaderKnown, listed_item, item_in, IsPathAfter}
 
 -- ---- the parts that have a fixed length
 
@@ -103,7 +103,7 @@ entry_lifted version path last bytes = lift_id (entry_at (room_in path) bytes)
 module _ (dir p1 p2 : List ℕ) (f f' : FeedState) (l l' : Option (List ℕ)) (room : 4096 - length p1 ≡ room_in dir) where
   pub name_ok : (kind : Kind) → (0 < room_in dir → p1 ≡ in_directory dir) → IsText (4096 - length p1) (drop (length p1) p2)
       → StreamGives {X = Unit {0}} (λ _. drop (length p1) p2) (text_at EmptyName (4096 - length p1)) f l f' l' (Ok tt)
-      → StreamGives (λ x. listed_item x (drop (length (in_directory dir)) p2)) (name_at kind (room_in dir)) f l f' l' (Ok (listeds.Entry kind))
+      → StreamGives (item_in dir p2) (name_at kind (room_in dir)) f l f' l' (Ok (listeds.Entry kind))
   name_ok kind begun plain g =
       let is : p1 ≡ in_directory dir = begun (omega (arith, plain.some, plain.fits, room)) in
       let at : ℕ → Type 0 = λ r. StreamGives {X = Unit {0}} (λ _. drop (length p1) p2) (text_at EmptyName r) f l f' l' (Ok tt) in
@@ -122,11 +122,25 @@ dir_by dir rest true = take_at dir rest (length dir) refl
 dir_by dir rest false = ap (take (length dir)) (append_assoc dir (47 ∷ []) rest) ∙ take_at dir (47 ∷ rest) (length dir) refl
 
 -- what an entry's path begins with
-pub name_dir : (dir p1 p2 : List ℕ) → 4096 - length p1 ≡ room_in dir → (0 < room_in dir → p1 ≡ in_directory dir) → IsText (4096 - length p1) (drop (length p1) p2) → take (length p1) p2 ≡ p1 → take (length dir) p2 ≡ dir
+name_dir : (dir p1 p2 : List ℕ) → 4096 - length p1 ≡ room_in dir → (0 < room_in dir → p1 ≡ in_directory dir) → IsText (4096 - length p1) (drop (length p1) p2) → take (length p1) p2 ≡ p1 → take (length dir) p2 ≡ dir
 name_dir dir p1 p2 room begun plain begins =
     let is : p1 ≡ in_directory dir = begun (omega (arith, plain.some, plain.fits, room)) in
     let rest : List ℕ = drop (length p1) p2 in
     ap (take (length dir)) (sym (take-append-drop (length p1) p2) ∙ ap (λ (l : List ℕ). l ++ rest) (begins ∙ is)) ∙ dir_by dir rest _
+
+-- the path in hand after a name was put behind the directory's path
+pub name_put : (n : ℕ) (path p1 p2 : List ℕ) (kind : Kind) → n ≤ length path → 4096 - length p1 ≡ room_in (take n path) → (0 < room_in (take n path) → p1 ≡ in_directory (take n path))
+    → IsText (4096 - length p1) (drop (length p1) p2) → take (length p1) p2 ≡ p1 → IsPathAfter (listeds.Entry kind) n path p2
+name_put n path p1 p2 kind within room begun plain begins =
+    let dir : List ℕ = take n path in
+    let is : p1 ≡ in_directory dir = begun (omega (arith, plain.some, plain.fits, room)) in
+    let long : length dir ≡ n = omega (arith, length-take n path, within) in
+    let kept : take n p2 ≡ dir = ap (λ (m : ℕ). take m p2) (sym long) ∙ name_dir dir p1 p2 room begun plain begins in
+    record {
+      dir = kept;
+      len = omega (arith, ap length kept, length-take n p2, long);
+      listed = (subst (λ (p : List ℕ). p2 ≡ p ++ drop (length p) p2) is (sym (take-append-drop (length p1) p2) ∙ ap (λ (l : List ℕ). l ++ drop (length p1) p2) begins), subst (λ (r : ℕ). IsText r (drop (length (in_directory dir)) p2)) room (subst (λ (p : List ℕ). IsText (4096 - length p1) (drop (length p) p2)) is plain));
+    }
 
 pub bad_kind : (room n : ℕ) → (n ≡ 0 → ⊥) → (n ≡ 1 → ⊥) → (n ≡ 2 → ⊥) → listed_at room n ≡ (λ bytes. Err (Broken BadKind))
 bad_kind room zero a b c = absurd (a refl)

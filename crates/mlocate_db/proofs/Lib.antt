@@ -1,3 +1,4 @@
+pub mod AheadReads
 mod DamagedExamples
 pub mod Entries
 pub mod ItemLaws
@@ -8,3 +9,4 @@ pub mod Parts
 pub mod PathSteps
 pub mod ReaderSteps
 pub mod Starts
+pub mod WrittenParts

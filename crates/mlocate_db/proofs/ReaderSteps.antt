@@ -26,7 +26,7 @@ use Rattle.mlocate_db.specs.declared.item.Listed.{Listed}
 use Rattle.mlocate_db.specs.declared.item.Listed.TheVariants as listeds
 use Rattle.mlocate_db.specs.declared.item.Numbers.{Numbers}
 use Rattle.mlocate_db.specs.Items.{Head, Item, HeadItem, EntryItem, Between, Inside, in_directory, room_in, numbers_at, as_head, head_at, entry_at, item_at, mlocate}
-use Rattle.mlocate_db.specs.StreamItems.{listed_item, ListedAt}
+use Rattle.mlocate_db.specs.StreamItems.{listed_item, item_in, ListedAt}
 use Rattle.mlocate_db.specs.Reader.{ReaderState, state_by, dir_of, rest_left, StepGives}
 use Rattle.mlocate_db.proofs.ItemSizes.{mlocate_shrinks}
 use Rattle.mlocate_db.proofs.ItemSteps.{head_lifted, entry_lifted, numbers_want, path_then, head_parts}
@@ -54,23 +54,20 @@ ends_left r t p l l' e before place m =
 
 -- ---- inside a directory
 
-abbrev named_by : List ℕ → List ℕ → Listed → Item
-named_by dir path x = listed_item x (drop (length (in_directory dir)) path)
-
 pub inside_entry : (r r' : ReaderState) (l l' : Option (List ℕ)) (kind : Kind) → r.stage ≡ stages.Inside → r'.stage ≡ stages.Inside → r.place ≡ r.feed.offset → r'.place ≡ r'.feed.offset → r'.version ≡ r.version → dir_of r' ≡ dir_of r
-    → StreamGives (named_by (dir_of r) r'.path) (entry_at (room_in (dir_of r))) r.feed l r'.feed l' (Ok (listeds.Entry kind)) → StepGives (Ok (steps.Entry kind)) r l r' l'
+    → StreamGives (item_in (dir_of r) r'.path) (entry_at (room_in (dir_of r))) r.feed l r'.feed l' (Ok (listeds.Entry kind)) → StepGives (Ok (steps.Entry kind)) r l r' l'
 inside_entry r r' l l' kind stage stage' at at' version dir g =
     let d : List ℕ = dir_of r in
     moved_left r r' _ _ _ _ l l' (left_is r stages.Inside r.version d r.feed.offset stage refl refl at) (left_is r' stages.Inside r.version d r'.feed.offset stage' version dir at')
     (ap (λ (x : List ℕ). EntryItem kind (drop (length (in_directory x)) r'.path)) (sym dir))
-    (step_ok mlocate mlocate_shrinks (Inside r.version d) (named_by d r'.path) (λ (i : Item). i) (entry_at (room_in d)) (entry_lifted r.version d) r.feed r'.feed l l' (listeds.Entry kind) g)
+    (step_ok mlocate mlocate_shrinks (Inside r.version d) (item_in d r'.path) (λ (i : Item). i) (entry_at (room_in d)) (entry_lifted r.version d) r.feed r'.feed l l' (listeds.Entry kind) g)
 
 pub inside_end : (r r' : ReaderState) (l l' : Option (List ℕ)) → r.stage ≡ stages.Inside → r'.stage ≡ stages.Between → r.place ≡ r.feed.offset → r'.place ≡ r'.feed.offset → r'.version ≡ r.version
-    → StreamGives (named_by (dir_of r) r'.path) (entry_at (room_in (dir_of r))) r.feed l r'.feed l' (Ok listeds.End) → StepGives (Ok steps.EndDirectory) r l r' l'
+    → StreamGives (item_in (dir_of r) r'.path) (entry_at (room_in (dir_of r))) r.feed l r'.feed l' (Ok listeds.End) → StepGives (Ok steps.EndDirectory) r l r' l'
 inside_end r r' l l' stage stage' at at' version g =
     let d : List ℕ = dir_of r in
     moved_left r r' _ _ _ _ l l' (left_is r stages.Inside r.version d r.feed.offset stage refl refl at) (left_is r' stages.Between r.version (dir_of r') r'.feed.offset stage' version refl at') refl
-    (step_ok mlocate mlocate_shrinks (Inside r.version d) (named_by d r'.path) (λ (i : Item). i) (entry_at (room_in d)) (entry_lifted r.version d) r.feed r'.feed l l' listeds.End g)
+    (step_ok mlocate mlocate_shrinks (Inside r.version d) (item_in d r'.path) (λ (i : Item). i) (entry_at (room_in d)) (entry_lifted r.version d) r.feed r'.feed l l' listeds.End g)
 
 never_end : (v : ℕ) (d : List ℕ) (f : FeedState) (l : Option (List ℕ)) → NotEnd mlocate (Inside v d) f l
 never_end v d f None = tt

@@ -1,5 +1,5 @@
 -- A reader of a database, and what it still gives.
-use Rattle.std.specs.Prelude.{◌≡◌, ℕ, ◌+◌, ◌<◌, Bool, true, false, List, [], ◌++◌, length, take, drop, Option, Some, None, Result, Ok, Err, ⊤, ◌↔◌}
+use Rattle.std.specs.Prelude.{◌≡◌, ℕ, ◌+◌, ◌<◌, ◌≤◌, ◌^◌, Bool, true, false, IsTrue, List, [], ◌++◌, length, take, drop, Option, Some, None, Result, Ok, Err, OnOk, OnErr, ⊤, ◌↔◌}
 use Rattle.path_order.specs.Stamp.{Moment}
 use Rattle.byte_feed.specs.declared.damage.Break.{Break}
 use Rattle.byte_feed.specs.declared.damage.DbFault.{DbFault}
@@ -154,6 +154,20 @@ goes_on (Ok steps.End) = false
 goes_on (Ok step) = true
 goes_on (Err fault) = false
 
+-- What a step leaves besides. Its place moves on just where an item was read, and unless a fault came the feed stands
+-- there; after a fault it stands no further than the longest head reaches, 4,113 bytes. The header's version and flag stay
+-- the same.
+pub record Stepped {E : Type 0} (result : Result Step E) (r r' : ReaderState) : Type 0 where
+  pub grows : IsTrue (goes_on result) → r.place < r'.place
+  pub stays : goes_on result ≡ false → r'.place ≡ r.place
+  pub at : OnOk result (r'.feed.offset ≡ r'.place)
+  pub near : r'.feed.offset ≤ r'.place + 4113
+  pub bound : r'.place ≤ 2 ^ 40
+  pub heads : r'.heads ≤ r'.place
+  pub within : r'.dir_len ≤ length r'.path
+  pub version : r'.version ≡ r.version
+  pub flag : r'.flag ≡ r.flag
+
 -- ---- the header
 
 -- This header was given off the front of the file. The path in hand is its root.
@@ -182,3 +196,18 @@ StartKnown (Ok same) r None r' left' root block = ⊤
 StartKnown (Ok same) r (Some l) r' None root block = ⊥
 StartKnown (Ok same) r (Some l) r' (Some l') root block = Starts r l r' l' root block same
 StartKnown (Err fault) r left r' left' root block = EndsKnown (rest_left r) (no_items mlocate r.place) r.feed left left' (Err fault)
+
+-- What a start leaves besides. Nothing was read before it, and it reads no head. Where the header is whole, the place
+-- moves to its end, the feed stands there, and a head is read next; else the place stays.
+pub record Started {A E : Type 0} (result : Result A E) (r r' : ReaderState) : Type 0 where
+  pub place_before : r.place ≡ 0
+  pub heads_before : r.heads ≡ 0
+  pub heads : r'.heads ≡ r.heads
+  pub grows : OnOk result (r.place < r'.place)
+  pub at : OnOk result (r'.feed.offset ≡ r'.place)
+  pub between : OnOk result (r'.stage ≡ stages.Between)
+  pub stays : OnErr result (r'.place ≡ r.place)
+  pub spent : is_fresh r'.stage ≡ false
+  pub bound : r'.place ≤ 2 ^ 40
+  pub stamp : r'.stamp ≡ r.stamp
+  pub device : r'.device ≡ r.device

@@ -1,11 +1,12 @@
 //! A database, item by item.
 ghost use Rattle.std.specs.Prelude.{◌≡◌, ◌+◌, ◌≤◌, ◌<◌, ◌^◌, ◌↔◌, [], true, false, length, take, Ok, Err, IfOk, IfErr, OnOk, OnErr, IsTrue, IsErrOf, is_ok};
 ghost use Rattle.loc_outside.specs.Causes.{Rose};
-ghost use Rattle.byte_feed.specs.Feed.{empty_at, Draws, reach};
+ghost use Rattle.byte_feed.specs.Feed.{empty_at};
 ghost use Rattle.byte_feed.specs.Paths.{beginning_of, StopsAt};
 ghost use Rattle.byte_feed.specs.Stream.{IsFault, BreaksAt};
 ghost use Rattle.mlocate_db.specs.Items.{mlocate};
-ghost use Rattle.mlocate_db.specs.Reader.{ReaderState, fresh_on, StepGives, StepBreaks, Shows, StartKnown, HeaderGives, goes_on, is_live, is_fresh, paths_left, path_found};
+ghost use Rattle.mlocate_db.specs.StreamItems.{ReadsAhead};
+ghost use Rattle.mlocate_db.specs.Reader.{ReaderState, fresh_on, StepGives, StepBreaks, Shows, Stepped, StartKnown, HeaderGives, Started, goes_on, is_live, is_fresh, paths_left, path_found};
 
 use crate::item::Listed;
 use crate::stream::{read_entry, read_head, read_header};
@@ -103,21 +104,10 @@ impl DbReader {
         requires { IsTrue (is_fresh self.old.stage) }
         ensures header { HeaderGives result self.old (S.left src.old) self.new (S.left src.new) }
         ensures live { is_live self.new.stage ≡ is_ok result }
-        ensures between { OnOk result (self.new.stage ≡ Stage.Between) }
-        ensures spent { is_fresh self.new.stage ≡ false }
         ensures stops { IfErr result (λ e. StopsAt self.new.feed self.new.place (Err e)) }
-        ensures at { OnOk result (self.new.feed.offset ≡ self.new.place) }
-        ensures grows { OnOk result (self.old.place < self.new.place) }
-        ensures stays { OnErr result (self.new.place ≡ self.old.place) }
-        ensures bound { self.new.place ≤ 2 ^ 40 }
-        ensures fresh { (self.old.place ≡ 0) × (self.old.heads ≡ 0) }
-        ensures heads { self.new.heads ≡ self.old.heads }
-        ensures stamp { self.new.stamp ≡ self.old.stamp }
-        ensures device { self.new.device ≡ self.old.device }
-        ensures drawn { Draws self.old.feed self.new.feed (S.given src.old) (S.given src.new) (S.left src.old) (S.left src.new) }
-        ensures held { length self.new.feed.held ≤ 4096 }
-        ensures reach { reach self.new.feed ≤ 2 ^ 40 }
         ensures fault { IsErrOf result DbFault.ReadFault → Rose (S.faults src.old) (S.faults src.new) }
+        ensures started { Started result self.old self.new }
+        ensures ahead { ReadsAhead self.old.feed self.new.feed (S.given src.old) (S.given src.new) (S.left src.old) (S.left src.new) }
         ensures later { S.faults src.old ≤ S.faults src.new }
         ensures kept { S.kept src.old src.new }
     {
@@ -138,21 +128,10 @@ impl DbReader {
         requires { IsTrue (is_fresh self.old.stage) }
         ensures header { StartKnown result self.old (S.left src.old) self.new (S.left src.new) root.now block.now }
         ensures live { is_live self.new.stage ≡ is_ok result }
-        ensures between { OnOk result (self.new.stage ≡ Stage.Between) }
-        ensures spent { is_fresh self.new.stage ≡ false }
         ensures stops { IfErr result (λ e. StopsAt self.new.feed self.new.place (Err e)) }
-        ensures at { OnOk result (self.new.feed.offset ≡ self.new.place) }
-        ensures grows { OnOk result (self.old.place < self.new.place) }
-        ensures stays { OnErr result (self.new.place ≡ self.old.place) }
-        ensures bound { self.new.place ≤ 2 ^ 40 }
-        ensures fresh { (self.old.place ≡ 0) × (self.old.heads ≡ 0) }
-        ensures heads { self.new.heads ≡ self.old.heads }
-        ensures stamp { self.new.stamp ≡ self.old.stamp }
-        ensures device { self.new.device ≡ self.old.device }
-        ensures drawn { Draws self.old.feed self.new.feed (S.given src.old) (S.given src.new) (S.left src.old) (S.left src.new) }
-        ensures held { length self.new.feed.held ≤ 4096 }
-        ensures reach { reach self.new.feed ≤ 2 ^ 40 }
         ensures fault { IsErrOf result DbFault.ReadFault → Rose (S.faults src.old) (S.faults src.new) }
+        ensures started { Started result self.old self.new }
+        ensures ahead { ReadsAhead self.old.feed self.new.feed (S.given src.old) (S.given src.new) (S.left src.old) (S.left src.new) }
         ensures later { S.faults src.old ≤ S.faults src.new }
         ensures kept { S.kept src.old src.new }
     {
@@ -180,19 +159,9 @@ impl DbReader {
         ensures live { is_live self.new.stage ≡ goes_on result }
         ensures whole { result ≡ Ok Step.End → StopsAt self.new.feed self.new.place (Ok tt) }
         ensures stops { IfErr result (λ e. StopsAt self.new.feed self.new.place (Err e)) }
-        ensures at { OnOk result (self.new.feed.offset ≡ self.new.place) }
-        ensures near { self.new.feed.offset ≤ self.new.place + 4113 }
-        ensures grows { IsTrue (goes_on result) → self.old.place < self.new.place }
-        ensures stays { goes_on result ≡ false → self.new.place ≡ self.old.place }
-        ensures bound { self.new.place ≤ 2 ^ 40 }
-        ensures heads { self.new.heads ≤ self.new.place }
-        ensures within { self.new.dir_len ≤ length self.new.path }
-        ensures version { self.new.version ≡ self.old.version }
-        ensures flag { self.new.flag ≡ self.old.flag }
-        ensures drawn { Draws self.old.feed self.new.feed (S.given src.old) (S.given src.new) (S.left src.old) (S.left src.new) }
-        ensures held { length self.new.feed.held ≤ 4096 }
-        ensures reach { reach self.new.feed ≤ 2 ^ 40 }
         ensures fault { IsErrOf result DbFault.ReadFault → Rose (S.faults src.old) (S.faults src.new) }
+        ensures stepped { Stepped result self.old self.new }
+        ensures ahead { ReadsAhead self.old.feed self.new.feed (S.given src.old) (S.given src.new) (S.left src.old) (S.left src.new) }
         ensures later { S.faults src.old ≤ S.faults src.new }
         ensures kept { S.kept src.old src.new }
     {
@@ -211,19 +180,9 @@ impl DbReader {
         ensures live { is_live self.new.stage ≡ goes_on result }
         ensures whole { result ≡ Ok Step.End → (self.new.feed.held ≡ []) × (self.new.feed.ended ≡ true) }
         ensures broke { BreaksAt self.new.feed result }
-        ensures at { OnOk result (self.new.feed.offset ≡ self.new.place) }
-        ensures near { self.new.feed.offset ≤ self.new.place + 4113 }
-        ensures grows { IsTrue (goes_on result) → self.old.place < self.new.place }
-        ensures stays { goes_on result ≡ false → self.new.place ≡ self.old.place }
-        ensures bound { self.new.place ≤ 2 ^ 40 }
-        ensures heads { self.new.heads ≤ self.new.place }
-        ensures within { self.new.dir_len ≤ length self.new.path }
-        ensures version { self.new.version ≡ self.old.version }
-        ensures flag { self.new.flag ≡ self.old.flag }
-        ensures drawn { Draws self.old.feed self.new.feed (S.given src.old) (S.given src.new) (S.left src.old) (S.left src.new) }
-        ensures held { length self.new.feed.held ≤ 4096 }
-        ensures reach { reach self.new.feed ≤ 2 ^ 40 }
         ensures fault { IsFault result → Rose (S.faults src.old) (S.faults src.new) }
+        ensures stepped { Stepped result self.old self.new }
+        ensures ahead { ReadsAhead self.old.feed self.new.feed (S.given src.old) (S.given src.new) (S.left src.old) (S.left src.new) }
         ensures later { S.faults src.old ≤ S.faults src.new }
         ensures kept { S.kept src.old src.new }
     {
@@ -242,19 +201,9 @@ impl DbReader {
         ensures live { is_live self.new.stage ≡ goes_on result }
         ensures whole { result ≡ Ok Step.End → (self.new.feed.held ≡ []) × (self.new.feed.ended ≡ true) }
         ensures broke { BreaksAt self.new.feed result }
-        ensures at { OnOk result (self.new.feed.offset ≡ self.new.place) }
-        ensures near { self.new.feed.offset ≤ self.new.place + 4113 }
-        ensures grows { IsTrue (goes_on result) → self.old.place < self.new.place }
-        ensures stays { goes_on result ≡ false → self.new.place ≡ self.old.place }
-        ensures bound { self.new.place ≤ 2 ^ 40 }
-        ensures heads { self.new.heads ≤ self.new.place }
-        ensures within { self.new.dir_len ≤ length self.new.path }
-        ensures version { self.new.version ≡ self.old.version }
-        ensures flag { self.new.flag ≡ self.old.flag }
-        ensures drawn { Draws self.old.feed self.new.feed (S.given src.old) (S.given src.new) (S.left src.old) (S.left src.new) }
-        ensures held { length self.new.feed.held ≤ 4096 }
-        ensures reach { reach self.new.feed ≤ 2 ^ 40 }
         ensures fault { IsFault result → Rose (S.faults src.old) (S.faults src.new) }
+        ensures stepped { Stepped result self.old self.new }
+        ensures ahead { ReadsAhead self.old.feed self.new.feed (S.given src.old) (S.given src.new) (S.left src.old) (S.left src.new) }
         ensures later { S.faults src.old ≤ S.faults src.new }
         ensures kept { S.kept src.old src.new }
     {
@@ -285,19 +234,9 @@ impl DbReader {
         ensures live { is_live self.new.stage ≡ goes_on result }
         ensures whole { result ≡ Ok Step.End → (self.new.feed.held ≡ []) × (self.new.feed.ended ≡ true) }
         ensures broke { BreaksAt self.new.feed result }
-        ensures at { OnOk result (self.new.feed.offset ≡ self.new.place) }
-        ensures near { self.new.feed.offset ≤ self.new.place + 4113 }
-        ensures grows { IsTrue (goes_on result) → self.old.place < self.new.place }
-        ensures stays { goes_on result ≡ false → self.new.place ≡ self.old.place }
-        ensures bound { self.new.place ≤ 2 ^ 40 }
-        ensures heads { self.new.heads ≤ self.new.place }
-        ensures within { self.new.dir_len ≤ length self.new.path }
-        ensures version { self.new.version ≡ self.old.version }
-        ensures flag { self.new.flag ≡ self.old.flag }
-        ensures drawn { Draws self.old.feed self.new.feed (S.given src.old) (S.given src.new) (S.left src.old) (S.left src.new) }
-        ensures held { length self.new.feed.held ≤ 4096 }
-        ensures reach { reach self.new.feed ≤ 2 ^ 40 }
         ensures fault { IsFault result → Rose (S.faults src.old) (S.faults src.new) }
+        ensures stepped { Stepped result self.old self.new }
+        ensures ahead { ReadsAhead self.old.feed self.new.feed (S.given src.old) (S.given src.new) (S.left src.old) (S.left src.new) }
         ensures later { S.faults src.old ≤ S.faults src.new }
         ensures kept { S.kept src.old src.new }
     {

@@ -1,11 +1,10 @@
 //! The items of a stream, in parts.
-ghost use Rattle.std.specs.Prelude.{◌≡◌, ◌≤◌, ◌-◌, ◌+◌, ◌<◌, ◌^◌, ◌∷◌, ◌++◌, [], length, take, drop, OnOk, OnErr, IfOk, true, false};
+ghost use Rattle.std.specs.Prelude.{◌≡◌, ◌≤◌, ◌-◌, ◌+◌, ◌<◌, length, take, OnOk, IfOk};
 ghost use Rattle.loc_outside.specs.Causes.{Rose};
-ghost use Rattle.byte_feed.specs.Feed.{reach, Draws};
 ghost use Rattle.byte_feed.specs.Field.{IsText};
 ghost use Rattle.byte_feed.specs.Stream.{StreamGives, IsFault, BreaksAt};
 ghost use Rattle.mlocate_db.specs.Items.{fixed_at, numbers_at, head_at, as_head, name_at, entry_at, room_in, in_directory};
-ghost use Rattle.mlocate_db.specs.StreamItems.{HeaderKnown, listed_item, ListedAt};
+ghost use Rattle.mlocate_db.specs.StreamItems.{HeaderKnown, item_in, IsPathAfter, ReadsAhead};
 
 use crate::item::{Fixed, Listed, Numbers};
 use crate::reading::{fixed, numbers};
@@ -19,10 +18,8 @@ fn read_fixed<S: Source>(feed: &mut Feed, src: &mut S) -> Result<Fixed, Break>
     ensures grows { OnOk result (feed.old.offset ≤ feed.new.offset) }
     ensures near { feed.new.offset ≤ feed.old.offset + 16 }
     ensures broke { BreaksAt feed.new result }
-    ensures drawn { Draws feed.old feed.new (S.given src.old) (S.given src.new) (S.left src.old) (S.left src.new) }
-    ensures held { length feed.new.held ≤ 4096 }
-    ensures reach { reach feed.new ≤ 2 ^ 40 }
     ensures fault { IsFault result → Rose (S.faults src.old) (S.faults src.new) }
+    ensures ahead { ReadsAhead feed.old feed.new (S.given src.old) (S.given src.new) (S.left src.old) (S.left src.new) }
     ensures later { S.faults src.old ≤ S.faults src.new }
     ensures kept { S.kept src.old src.new }
 {
@@ -51,10 +48,8 @@ pub(crate) fn read_header<S: Source>(
     ensures header { HeaderKnown block.now root.new feed.old (S.left src.old) feed.new (S.left src.new) result }
     ensures grows { OnOk result (feed.old.offset < feed.new.offset) }
     ensures broke { BreaksAt feed.new result }
-    ensures drawn { Draws feed.old feed.new (S.given src.old) (S.given src.new) (S.left src.old) (S.left src.new) }
-    ensures held { length feed.new.held ≤ 4096 }
-    ensures reach { reach feed.new ≤ 2 ^ 40 }
     ensures fault { IsFault result → Rose (S.faults src.old) (S.faults src.new) }
+    ensures ahead { ReadsAhead feed.old feed.new (S.given src.old) (S.given src.new) (S.left src.old) (S.left src.new) }
     ensures later { S.faults src.old ≤ S.faults src.new }
     ensures kept { S.kept src.old src.new }
 {
@@ -80,10 +75,8 @@ fn read_numbers<S: Source>(feed: &mut Feed, src: &mut S) -> Result<Numbers, Brea
     ensures grows { OnOk result (feed.old.offset ≤ feed.new.offset) }
     ensures near { feed.new.offset ≤ feed.old.offset + 16 }
     ensures broke { BreaksAt feed.new result }
-    ensures drawn { Draws feed.old feed.new (S.given src.old) (S.given src.new) (S.left src.old) (S.left src.new) }
-    ensures held { length feed.new.held ≤ 4096 }
-    ensures reach { reach feed.new ≤ 2 ^ 40 }
     ensures fault { IsFault result → Rose (S.faults src.old) (S.faults src.new) }
+    ensures ahead { ReadsAhead feed.old feed.new (S.given src.old) (S.given src.new) (S.left src.old) (S.left src.new) }
     ensures later { S.faults src.old ≤ S.faults src.new }
     ensures kept { S.kept src.old src.new }
 {
@@ -113,10 +106,8 @@ pub(crate) fn read_head<S: Source>(
     ensures grows { OnOk result (feed.old.offset < feed.new.offset) }
     ensures near { feed.new.offset ≤ feed.old.offset + 4113 }
     ensures broke { BreaksAt feed.new result }
-    ensures drawn { Draws feed.old feed.new (S.given src.old) (S.given src.new) (S.left src.old) (S.left src.new) }
-    ensures held { length feed.new.held ≤ 4096 }
-    ensures reach { reach feed.new ≤ 2 ^ 40 }
     ensures fault { IsFault result → Rose (S.faults src.old) (S.faults src.new) }
+    ensures ahead { ReadsAhead feed.old feed.new (S.given src.old) (S.given src.new) (S.left src.old) (S.left src.new) }
     ensures later { S.faults src.old ≤ S.faults src.new }
     ensures kept { S.kept src.old src.new }
 {
@@ -141,17 +132,13 @@ pub(crate) fn read_entry<S: Source>(
 ) -> Result<Listed, Break>
     requires within { dir_len ≤ length path.old }
     requires dir { IsText 4096 (take dir_len path.old) }
-    ensures item { StreamGives (λ x. listed_item x (drop (length (in_directory (take dir_len path.old))) path.new)) (entry_at (room_in (take dir_len path.old))) feed.old (S.left src.old) feed.new (S.left src.new) result }
-    ensures path { IfOk result (λ x. ListedAt x (take dir_len path.old) path.new) }
-    ensures dir { OnOk result (take dir_len path.new ≡ take dir_len path.old) }
-    ensures len { OnOk result (dir_len ≤ length path.new) }
+    ensures item { let dir = take dir_len path.old in StreamGives (item_in dir path.new) (entry_at (room_in dir)) feed.old (S.left src.old) feed.new (S.left src.new) result }
+    ensures path { IfOk result (λ x. IsPathAfter x dir_len path.old path.new) }
     ensures grows { OnOk result (feed.old.offset < feed.new.offset) }
     ensures near { feed.new.offset ≤ feed.old.offset + 4098 }
     ensures broke { BreaksAt feed.new result }
-    ensures drawn { Draws feed.old feed.new (S.given src.old) (S.given src.new) (S.left src.old) (S.left src.new) }
-    ensures held { length feed.new.held ≤ 4096 }
-    ensures reach { reach feed.new ≤ 2 ^ 40 }
     ensures fault { IsFault result → Rose (S.faults src.old) (S.faults src.new) }
+    ensures ahead { ReadsAhead feed.old feed.new (S.given src.old) (S.given src.new) (S.left src.old) (S.left src.new) }
     ensures later { S.faults src.old ≤ S.faults src.new }
     ensures kept { S.kept src.old src.new }
 {
@@ -182,17 +169,13 @@ fn read_name<S: Source>(
 ) -> Result<Listed, Break>
     requires within { dir_len ≤ length path.old }
     requires dir { IsText 4096 (take dir_len path.old) }
-    ensures item { StreamGives (λ x. listed_item x (drop (length (in_directory (take dir_len path.old))) path.new)) (name_at kind (room_in (take dir_len path.old))) feed.old (S.left src.old) feed.new (S.left src.new) result }
-    ensures path { IfOk result (λ x. ListedAt x (take dir_len path.old) path.new) }
-    ensures dir { OnOk result (take dir_len path.new ≡ take dir_len path.old) }
-    ensures len { OnOk result (dir_len ≤ length path.new) }
+    ensures item { let dir = take dir_len path.old in StreamGives (item_in dir path.new) (name_at kind (room_in dir)) feed.old (S.left src.old) feed.new (S.left src.new) result }
+    ensures path { IfOk result (λ x. IsPathAfter x dir_len path.old path.new) }
     ensures grows { OnOk result (feed.old.offset < feed.new.offset) }
     ensures near { feed.new.offset ≤ feed.old.offset + 4097 }
     ensures broke { BreaksAt feed.new result }
-    ensures drawn { Draws feed.old feed.new (S.given src.old) (S.given src.new) (S.left src.old) (S.left src.new) }
-    ensures held { length feed.new.held ≤ 4096 }
-    ensures reach { reach feed.new ≤ 2 ^ 40 }
     ensures fault { IsFault result → Rose (S.faults src.old) (S.faults src.new) }
+    ensures ahead { ReadsAhead feed.old feed.new (S.given src.old) (S.given src.new) (S.left src.old) (S.left src.new) }
     ensures later { S.faults src.old ≤ S.faults src.new }
     ensures kept { S.kept src.old src.new }
 {

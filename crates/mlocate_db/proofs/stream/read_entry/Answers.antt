@@ -6,6 +6,7 @@ use Rattle.byte_feed.specs.Field.{byte_at}
 use Rattle.byte_feed.proofs.Streams.{stream_then, stream_err, stream_ok, stream_stop}
 use Rattle.mlocate_db.specs.declared.item.Listed.TheVariants as listeds
 use Rattle.mlocate_db.specs.Items.{room_in, listed_at, entry_at}
+use Rattle.mlocate_db.proofs.AheadReads.{ahead_then}
 use Rattle.mlocate_db.proofs.ItemSteps.{bad_kind}
 use Rattle.mlocate_db.proofs.stream.read_entry.Goals as goal
 
@@ -34,3 +35,13 @@ returns-clause-item g c =
     let room : ℕ = room_in (take c.args.dir_len c.args.path.now) in
     let bad = bad_kind room c.in-Ok.kind c.if-kind-eq0.false c.if-kind-eq1.false c.if-kind-eq2.false in
     stream_then (λ (n : ℕ). n) byte_at (listed_at room) _ _ _ _ _ _ _ c.in-Ok.kind (Err (Stopped (Broken BadKind))) c.in-Ok.ensures.byte (rw bad (stream_stop _ (Broken BadKind) _ _ refl))
+
+pub returns-then-kind-eq0-clause-ahead : goal.returns-then-kind-eq0-clause-ahead
+returns-then-kind-eq0-clause-ahead g c =
+    let e = c.read_name.ensures.ahead in
+    ahead_then _ _ _ _ _ _ _ _ _ c.in-Ok.ensures.drawn e.drawn e.held e.bound
+
+pub returns-then-kind-eq1-clause-ahead : goal.returns-then-kind-eq1-clause-ahead
+returns-then-kind-eq1-clause-ahead g c =
+    let e = c.read_name-then-kind-eq1.ensures.ahead in
+    ahead_then _ _ _ _ _ _ _ _ _ c.in-Ok.ensures.drawn e.drawn e.held e.bound

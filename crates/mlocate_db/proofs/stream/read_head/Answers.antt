@@ -1,10 +1,10 @@
 use Rattle.std.proofs.Common.{Ok, length, ap, arith}
 use Rattle.byte_feed.specs.declared.damage.DamageCause.TheVariants.{EmptyPath}
 use Rattle.byte_feed.specs.Field.{text_at}
-use Rattle.byte_feed.proofs.Draws.{draws_then}
 use Rattle.byte_feed.proofs.Streams.{stream_then, stream_err, stream_ok, stream_same}
 use Rattle.mlocate_db.specs.declared.item.Numbers.{Numbers}
 use Rattle.mlocate_db.specs.Items.{Head, numbers_at, as_head, head_at}
+use Rattle.mlocate_db.proofs.AheadReads.{ahead_then}
 use Rattle.mlocate_db.proofs.ItemSteps.{path_then, head_parts}
 use Rattle.mlocate_db.proofs.stream.read_head.Goals as goal
 
@@ -34,8 +34,12 @@ returns-in-Err-read_text-clause-head g c =
 pub returns-in-Ok-read_text-clause-grows : goal.returns-in-Ok-read_text-clause-grows
 returns-in-Ok-read_text-clause-grows g c = omega (arith, c.in-Ok.ensures.grows, c.in-Ok-read_text.ensures.grows, ap length c.cut.ensures)
 
-pub returns-in-Ok-read_text-clause-drawn : goal.returns-in-Ok-read_text-clause-drawn
-returns-in-Ok-read_text-clause-drawn g c = draws_then _ _ _ _ _ _ _ _ _ c.in-Ok.ensures.drawn c.in-Ok-read_text.ensures.drawn
+pub returns-in-Ok-read_text-clause-ahead : goal.returns-in-Ok-read_text-clause-ahead
+returns-in-Ok-read_text-clause-ahead g c =
+    let e = c.in-Ok-read_text.ensures in
+    ahead_then _ _ _ _ _ _ _ _ _ c.in-Ok.ensures.ahead.drawn e.drawn e.held e.reach
 
-pub returns-in-Err-read_text-clause-drawn : goal.returns-in-Err-read_text-clause-drawn
-returns-in-Err-read_text-clause-drawn g c = draws_then _ _ _ _ _ _ _ _ _ c.in-Ok.ensures.drawn c.in-Err-read_text.ensures.drawn
+pub returns-in-Err-read_text-clause-ahead : goal.returns-in-Err-read_text-clause-ahead
+returns-in-Err-read_text-clause-ahead g c =
+    let e = c.in-Err-read_text.ensures in
+    ahead_then _ _ _ _ _ _ _ _ _ c.in-Ok.ensures.ahead.drawn e.drawn e.held e.reach

@@ -1,5 +1,5 @@
-use Rattle.std.proofs.Common.{◌≡◌, ℕ, List, length, take, ap, sym, ◌∙◌, arith, length-take}
-use Rattle.mlocate_db.proofs.ItemSteps.{name_ok, name_err, name_dir}
+use Rattle.std.proofs.Common.{take}
+use Rattle.mlocate_db.proofs.ItemSteps.{name_ok, name_err, name_put}
 use Rattle.mlocate_db.proofs.stream.read_name.Goals as goal
 
 pub returns-in-Ok-clause-item : goal.returns-in-Ok-clause-item
@@ -8,13 +8,11 @@ returns-in-Ok-clause-item g c =
     let opened = rw c.cut.ensures at c.open_directory.ensures.opened in
     name_ok (take c.args.dir_len c.args.path.now) c.open_directory.new.path c.read_text.new.into _ _ _ _ room c.args.kind opened c.in-Ok.ensures.plain c.in-Ok.ensures.text
 
-pub returns-in-Ok-clause-dir : goal.returns-in-Ok-clause-dir
-returns-in-Ok-clause-dir g c =
-    let dir : List ℕ = take c.args.dir_len c.args.path.now in
+pub returns-in-Ok-clause-path : goal.returns-in-Ok-clause-path
+returns-in-Ok-clause-path g c =
     let room = rw c.cut.ensures at c.open_directory.ensures.room in
     let opened = rw c.cut.ensures at c.open_directory.ensures.opened in
-    let len : length dir ≡ c.args.dir_len = omega (arith, length-take c.args.dir_len c.args.path.now, c.requires.within) in
-    ap (λ (n : ℕ). take n c.read_text.new.into) (sym len) ∙ name_dir dir c.open_directory.new.path c.read_text.new.into room opened c.in-Ok.ensures.plain c.in-Ok.ensures.begins
+    name_put c.args.dir_len c.args.path.now c.open_directory.new.path c.read_text.new.into c.args.kind c.requires.within room opened c.in-Ok.ensures.plain c.in-Ok.ensures.begins
 
 pub returns-in-Err-clause-item : goal.returns-in-Err-clause-item
 returns-in-Err-clause-item g c =

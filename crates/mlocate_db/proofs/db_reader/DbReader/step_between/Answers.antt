@@ -3,6 +3,7 @@ use Rattle.byte_feed.specs.Feed.{IsAllAhead}
 use Rattle.mlocate_db.specs.declared.db_reader.Stage.TheVariants as stages
 use Rattle.mlocate_db.specs.Reader.{ReaderState, is_done}
 use Rattle.byte_feed.proofs.Streams.{stream_after}
+use Rattle.mlocate_db.proofs.AheadReads.{ahead_then}
 use Rattle.mlocate_db.proofs.ReaderSteps.{between_head, between_end, between_large, between_err, not_end, head_wanting}
 use Rattle.mlocate_db.proofs.db_reader.DbReader.step_between.Goals as goal
 
@@ -65,3 +66,13 @@ returns-in-Err-clause-step g c =
     let r' : ReaderState = record { feed = n.feed; path = n.path; dir_len = 0; stage = stages.Done; version = s.version; flag = s.flag; stamp = s.stamp; device = s.device; place = s.place; heads = s.heads } in
     let look = c.in-Ok.ensures in
     rw (← c.self.view_is) (between_err r r' _ _ _ c.in-Err.cause stage at (not_end s.version _ _ _ _ look.took (omega (arith, look.held, c.if-count-eq0.false)) look.bound) (stream_after _ _ _ _ _ _ _ _ _ look.took c.in-Err.ensures.head))
+
+pub returns-in-Some-clause-ahead : goal.returns-in-Some-clause-ahead
+returns-in-Some-clause-ahead g c =
+    let e = c.in-Ok-read_head.ensures.ahead in
+    rw (← c.self.view_is) (ahead_then _ _ _ _ _ _ _ _ _ c.in-Ok.ensures.drawn e.drawn e.held e.bound)
+
+pub returns-in-Err-clause-ahead : goal.returns-in-Err-clause-ahead
+returns-in-Err-clause-ahead g c =
+    let e = c.in-Err.ensures.ahead in
+    rw (← c.self.view_is) (ahead_then _ _ _ _ _ _ _ _ _ c.in-Ok.ensures.drawn e.drawn e.held e.bound)

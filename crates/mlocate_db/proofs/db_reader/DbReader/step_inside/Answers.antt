@@ -14,7 +14,7 @@ returns-in-Ok-Entry-clause-step g c =
     let n = c.read_entry.new in
     let r' : ReaderState = record { feed = n.feed; path = n.path; dir_len = s.dir_len; stage = s.stage; version = s.version; flag = s.flag; stamp = s.stamp; device = s.device; place = c.offset-self-inside.result; heads = s.heads } in
     let e = c.in-Ok-Entry.ensures in
-    rw (← c.self.view_is) (inside_entry r r' _ _ c.in-Ok-Entry.kind stage stage at c.offset-self-inside.ensures.value refl e.dir (rw c.in-Ok-Entry.field-0-is at e.item))
+    rw (← c.self.view_is) (inside_entry r r' _ _ c.in-Ok-Entry.kind stage stage at c.offset-self-inside.ensures.value refl e.path.dir (rw c.in-Ok-Entry.field-0-is at e.item))
 
 pub returns-in-Ok-Entry-clause-shows : goal.returns-in-Ok-Entry-clause-shows
 returns-in-Ok-Entry-clause-shows g c =
@@ -30,11 +30,11 @@ returns-in-Ok-Entry-clause-shows g c =
     let shown : ShowsEntry r r' = record {
       before = stage;
       after = stage;
-      dir = e.dir;
+      dir = listed.dir;
       dir_len = refl;
-      below = omega (arith, entry_longer (take s.dir_len s.path) n.path c.in-Ok-Entry.kind listed, length-take s.dir_len s.path, inv.0);
-      joined = listed.0;
-      text = entry_path (take s.dir_len s.path) n.path c.in-Ok-Entry.kind (inv.4 (ap is_inside stage)) listed;
+      below = omega (arith, entry_longer (take s.dir_len s.path) n.path c.in-Ok-Entry.kind listed.listed, length-take s.dir_len s.path, inv.0);
+      joined = listed.listed.0;
+      text = entry_path (take s.dir_len s.path) n.path c.in-Ok-Entry.kind (inv.4 (ap is_inside stage)) listed.listed;
       stamp = refl;
       device = refl;
       heads = refl;

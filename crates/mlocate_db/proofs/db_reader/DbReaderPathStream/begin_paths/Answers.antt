@@ -3,19 +3,19 @@ use Rattle.mlocate_db.proofs.Starts.{begun_by, moved_by, unbegun_by, ended_by, s
 use Rattle.mlocate_db.proofs.db_reader.DbReaderPathStream.begin_paths.Goals as goal
 
 pub returns-clause-begun : goal.returns-clause-begun
-returns-clause-begun g c = begun_by _ _ _ _ c.start.result c.requires c.start.ensures.fresh.0 c.start.ensures.header
+returns-clause-begun g c = begun_by _ _ _ _ c.start.result c.requires c.start.ensures.started.place_before c.start.ensures.header
 
 pub returns-clause-ok : goal.returns-clause-ok
-returns-clause-ok g c = moved_by _ _ _ _ c.start.result c.requires c.start.ensures.heads c.start.ensures.header
+returns-clause-ok g c = moved_by _ _ _ _ c.start.result c.requires c.start.ensures.started.heads c.start.ensures.header
 
 pub returns-clause-refused : goal.returns-clause-refused
 returns-clause-refused g c = unbegun_by _ _ _ _ c.start.result c.requires c.start.ensures.header
 
 pub returns-clause-err : goal.returns-clause-err
-returns-clause-err g c = ended_by _ _ _ _ c.start.result c.start.ensures.fresh.0 c.start.ensures.fresh.1 c.start.ensures.header
+returns-clause-err g c = ended_by _ _ _ _ c.start.result c.start.ensures.started.place_before c.start.ensures.started.heads_before c.start.ensures.header
 
 pub returns-clause-stays : goal.returns-clause-stays
-returns-clause-stays g c = stays_by c.args.self.now c.start.new.self c.start.result c.start.ensures.fresh.0 c.start.ensures.stays
+returns-clause-stays g c = stays_by c.args.self.now c.start.new.self c.start.result c.start.ensures.started.place_before c.start.ensures.started.stays
 
 pub returns-clause-heads : goal.returns-clause-heads
-returns-clause-heads g c = c.start.ensures.heads ∙ c.start.ensures.fresh.1
+returns-clause-heads g c = c.start.ensures.started.heads ∙ c.start.ensures.started.heads_before

@@ -7,20 +7,20 @@ use Rattle.mlocate_db.proofs.db_reader.DbReaderPathStream.next_path.Goals as goa
 pub returns-in-Ok-Entry-clause-path : goal.returns-in-Ok-Entry-clause-path
 returns-in-Ok-Entry-clause-path g c _ =
     let e = c.in-Ok-Entry.ensures in
-    moved_then _ _ _ _ _ _ _ _ _ _ _ c.steps.invariant.moved (entry_paths _ _ _ _ c.in-Ok-Entry.field-0-0 e.version (rw c.in-Ok-Entry.field-0-is at e.shows) (rw c.in-Ok-Entry.field-0-is at e.step))
+    moved_then _ _ _ _ _ _ _ _ _ _ _ c.steps.invariant.moved (entry_paths _ _ _ _ c.in-Ok-Entry.field-0-0 e.stepped.version (rw c.in-Ok-Entry.field-0-is at e.shows) (rw c.in-Ok-Entry.field-0-is at e.step))
 
 pub returns-in-Ok-Entry-clause-drawn : goal.returns-in-Ok-Entry-clause-drawn
-returns-in-Ok-Entry-clause-drawn g c = draws_then _ _ _ _ _ _ _ _ _ c.steps.invariant.drawn c.in-Ok-Entry.ensures.drawn
+returns-in-Ok-Entry-clause-drawn g c = draws_then _ _ _ _ _ _ _ _ _ c.steps.invariant.drawn c.in-Ok-Entry.ensures.ahead.drawn
 
 pub steps-preserved-in-Ok-Directory : goal.steps-preserved-in-Ok-Directory
 steps-preserved-in-Ok-Directory g c =
     let e = c.in-Ok-Directory.ensures in
     record {
       live = rw c.in-Ok-Directory.field-0-is at e.live;
-      moved = moved_then _ _ _ _ _ _ _ _ _ _ _ c.steps.invariant.moved (head_paths _ _ _ _ e.version (rw c.in-Ok-Directory.field-0-is at e.shows) (rw c.in-Ok-Directory.field-0-is at e.step));
-      place = omega (arith, c.steps.invariant.place, (rw c.in-Ok-Directory.field-0-is at e.grows) refl);
-      flag = e.flag ∙ c.steps.invariant.flag;
-      drawn = draws_then _ _ _ _ _ _ _ _ _ c.steps.invariant.drawn e.drawn;
+      moved = moved_then _ _ _ _ _ _ _ _ _ _ _ c.steps.invariant.moved (head_paths _ _ _ _ e.stepped.version (rw c.in-Ok-Directory.field-0-is at e.shows) (rw c.in-Ok-Directory.field-0-is at e.step));
+      place = omega (arith, c.steps.invariant.place, (rw c.in-Ok-Directory.field-0-is at e.stepped).grows refl);
+      flag = e.stepped.flag ∙ c.steps.invariant.flag;
+      drawn = draws_then _ _ _ _ _ _ _ _ _ c.steps.invariant.drawn e.ahead.drawn;
       faults = omega (arith, c.steps.invariant.faults, e.later);
       kept = g.met.S.Source.keeps_on _ _ _ c.steps.invariant.kept e.kept;
     }
@@ -30,10 +30,10 @@ steps-preserved g c =
     let e = c.in-Ok-EndDirectory.ensures in
     record {
       live = rw c.in-Ok-EndDirectory.field-0-is at e.live;
-      moved = moved_then _ _ _ _ _ _ _ _ _ _ _ c.steps.invariant.moved (end_paths _ _ _ _ e.version (rw c.in-Ok-EndDirectory.field-0-is at e.shows) (rw c.in-Ok-EndDirectory.field-0-is at e.step));
-      place = omega (arith, c.steps.invariant.place, (rw c.in-Ok-EndDirectory.field-0-is at e.grows) refl);
-      flag = e.flag ∙ c.steps.invariant.flag;
-      drawn = draws_then _ _ _ _ _ _ _ _ _ c.steps.invariant.drawn e.drawn;
+      moved = moved_then _ _ _ _ _ _ _ _ _ _ _ c.steps.invariant.moved (end_paths _ _ _ _ e.stepped.version (rw c.in-Ok-EndDirectory.field-0-is at e.shows) (rw c.in-Ok-EndDirectory.field-0-is at e.step));
+      place = omega (arith, c.steps.invariant.place, (rw c.in-Ok-EndDirectory.field-0-is at e.stepped).grows refl);
+      flag = e.stepped.flag ∙ c.steps.invariant.flag;
+      drawn = draws_then _ _ _ _ _ _ _ _ _ c.steps.invariant.drawn e.ahead.drawn;
       faults = omega (arith, c.steps.invariant.faults, e.later);
       kept = g.met.S.Source.keeps_on _ _ _ c.steps.invariant.kept e.kept;
     }
