@@ -5,7 +5,6 @@ pub mod ItemLaws
 pub mod ItemSizes
 pub mod ItemSteady
 pub mod ItemSteps
-pub mod Parts
 pub mod PathSteps
 pub mod ReaderSteps
 pub mod Starts
