@@ -15,7 +15,7 @@ use Rattle.tool_words.specs.declared.tool.Tool.{Tool}
 use Rattle.tool_words.specs.declared.tool.Tool.TheVariants as tools
 use Rattle.locate_tools.specs.declared.answer.Cause.{Cause}
 use Rattle.locate_tools.specs.declared.answer.Cause.TheVariants as causes
-use Rattle.locate_tools.specs.Calls.{CallMade, IsLocate, IsUpdatedb, built, request_of, root_of, tool_called}
+use Rattle.locate_tools.specs.Calls.{CallMade, built, request_of, subject_of, tool_called, update_subject}
 use Rattle.locate_tools.specs.Located.{databases_of}
 use Rattle.locate_tools.specs.Messages.{cause_message}
 use Rattle.locate_tools.specs.Told.{messages, messages_of, told}
@@ -79,54 +79,20 @@ none_of (Some (Exercise e)) = refl
 pub told_refused : (call : CallMade) (tool : Option Tool) (cause : Cause) → tool ≡ tool_called call → request_of call ≡ None → cause_message (speaker tool) [] cause ≡ told call [] cause
 told_refused call tool cause is none =
     ap (λ (t : Option Tool). cause_message (speaker t) [] cause) is
-    ∙ sym (ap (λ (r : Option Asked). messages_of r [] ++ cause_message (speaker (tool_called call)) (root_of r) cause) none)
+    ∙ sym (ap (λ (r : Option Asked). messages_of r [] ++ cause_message (speaker (tool_called call)) (subject_of r cause) cause) none)
 
 -- where there is no memory for the words
 pub told_memory : (call : CallMade) (tool : Option Tool) → tool ≡ tool_called call → cause_message (speaker tool) [] causes.OutOfMemory ≡ told call [] causes.OutOfMemory
 told_memory call tool is =
     ap (λ (t : Option Tool). cause_message (speaker t) [] causes.OutOfMemory) is
-    ∙ sym (ap (λ (text : List ℕ). text ++ cause_message (speaker (tool_called call)) (root_of (request_of call)) causes.OutOfMemory) (none_of (request_of call)))
+    ∙ sym (ap (λ (text : List ℕ). text ++ cause_message (speaker (tool_called call)) (subject_of (request_of call) causes.OutOfMemory) causes.OutOfMemory) (none_of (request_of call)))
 
 pub told_locate : (call : CallMade) (a : LocateAsked) (os : List Outcome) (cause : Cause) → request_of call ≡ Some (Locate a) → messages a.quiet (databases_of a) os ++ cause_message (speaker (Some tools.Locate)) [] cause ≡ told call os cause
 told_locate call a os cause is =
     ap (λ (t : Option Tool). messages a.quiet (databases_of a) os ++ cause_message (speaker t) [] cause) (sym (tool_of_locate call a is))
-    ∙ sym (ap (λ (r : Option Asked). messages_of r os ++ cause_message (speaker (tool_called call)) (root_of r) cause) is)
+    ∙ sym (ap (λ (r : Option Asked). messages_of r os ++ cause_message (speaker (tool_called call)) (subject_of r cause) cause) is)
 
-pub told_updatedb : (call : CallMade) (a : UpdatedbAsked) (cause : Cause) → request_of call ≡ Some (Updatedb a) → cause_message (speaker (Some tools.Updatedb)) a.root cause ≡ told call [] cause
+pub told_updatedb : (call : CallMade) (a : UpdatedbAsked) (cause : Cause) → request_of call ≡ Some (Updatedb a) → cause_message (speaker (Some tools.Updatedb)) (update_subject a.root cause) cause ≡ told call [] cause
 told_updatedb call a cause is =
-    ap (λ (t : Option Tool). cause_message (speaker t) a.root cause) (sym (tool_of_updatedb call a is))
-    ∙ sym (ap (λ (r : Option Asked). messages_of r [] ++ cause_message (speaker (tool_called call)) (root_of r) cause) is)
-
--- ---- what holds by tool
-
-pub is_locate : (r : Option Asked) (a : LocateAsked) (P : LocateAsked → Type 0) → r ≡ Some (Locate a) → P a → IsLocate r P
-is_locate r a P is fact = subst (λ (x : Option Asked). IsLocate x P) (sym is) fact
-
-pub no_locate : (r : Option Asked) (a : UpdatedbAsked) (P : LocateAsked → Type 0) → r ≡ Some (Updatedb a) → IsLocate r P
-no_locate r a P is = subst (λ (x : Option Asked). IsLocate x P) (sym is) tt
-
-pub is_updatedb : (r : Option Asked) (a : UpdatedbAsked) (P : UpdatedbAsked → Type 0) → r ≡ Some (Updatedb a) → P a → IsUpdatedb r P
-is_updatedb r a P is fact = subst (λ (x : Option Asked). IsUpdatedb x P) (sym is) fact
-
-pub no_updatedb : (r : Option Asked) (a : LocateAsked) (P : UpdatedbAsked → Type 0) → r ≡ Some (Locate a) → IsUpdatedb r P
-no_updatedb r a P is = subst (λ (x : Option Asked). IsUpdatedb x P) (sym is) tt
-
-pub any_locate : (r : Option Asked) (P : LocateAsked → Type 0) → ((a : LocateAsked) → P a) → IsLocate r P
-any_locate None P all = tt
-any_locate (Some (Updatedb u)) P all = tt
-any_locate (Some (Locate l)) P all = all l
-any_locate (Some (Convert v)) P all = tt
-any_locate (Some (Exercise e)) P all = tt
-
-pub any_updatedb : (r : Option Asked) (P : UpdatedbAsked → Type 0) → ((a : UpdatedbAsked) → P a) → IsUpdatedb r P
-any_updatedb None P all = tt
-any_updatedb (Some (Updatedb u)) P all = all u
-any_updatedb (Some (Locate l)) P all = tt
-any_updatedb (Some (Convert v)) P all = tt
-any_updatedb (Some (Exercise e)) P all = tt
-
-pub none_locate : (r : Option Asked) (P : LocateAsked → Type 0) → r ≡ None → IsLocate r P
-none_locate r P is = subst (λ (x : Option Asked). IsLocate x P) (sym is) tt
-
-pub none_updatedb : (r : Option Asked) (P : UpdatedbAsked → Type 0) → r ≡ None → IsUpdatedb r P
-none_updatedb r P is = subst (λ (x : Option Asked). IsUpdatedb x P) (sym is) tt
+    ap (λ (t : Option Tool). cause_message (speaker t) (update_subject a.root cause) cause) (sym (tool_of_updatedb call a is))
+    ∙ sym (ap (λ (r : Option Asked). messages_of r [] ++ cause_message (speaker (tool_called call)) (subject_of r cause) cause) is)

@@ -1,11 +1,15 @@
 -- A call, and what it asks of a run.
-use Rattle.std.specs.Prelude.{ℕ, List, [], Option, Some, None, ⊤}
+use Rattle.std.specs.Prelude.{ℕ, List, [], Option, Some, None}
 use Rattle.path_order.specs.Stamp.{Moment}
 use Rattle.tool_words.specs.Asked.{Asked, Updatedb, Locate, Convert, Exercise, asked}
 use Rattle.tool_words.specs.Locate.{LocateAsked}
 use Rattle.tool_words.specs.Updatedb.{UpdatedbAsked}
 use Rattle.tool_words.specs.Values.{◌>>=◌}
 use Rattle.tool_words.specs.Tools.{speaker, tool_of}
+use Rattle.database_update.specs.SettingsFiles.{name_of}
+use Rattle.database_update.specs.declared.settings_file.SettingsFile.TheVariants.{Configuration, Mounts}
+use Rattle.locate_tools.specs.declared.answer.Cause.{Cause}
+use Rattle.locate_tools.specs.declared.answer.Cause.TheVariants as causes
 use Rattle.tool_words.specs.declared.tool.Tool.{Tool}
 
 -- The words after the program's own name, of which the first names a tool; the moment of the call; the value of
@@ -34,26 +38,18 @@ built (Exercise settings) = None
 unfoldable pub request_of : CallMade → Option Asked
 request_of call = asked call.words call.locate_path >>= built
 
--- the words are those of `locate`, and ask for something
-abbrev pub IsLocate : Option Asked → (LocateAsked → Type 0) → Type 0
-IsLocate None P = ⊤
-IsLocate (Some (Updatedb settings)) P = ⊤
-IsLocate (Some (Locate settings)) P = P settings
-IsLocate (Some (Convert settings)) P = ⊤
-IsLocate (Some (Exercise settings)) P = ⊤
+-- the name that the message of a cause of `updatedb` speaks of: a settings file, or the root
+abbrev pub update_subject : List ℕ → Cause → List ℕ
+update_subject root (causes.BadConf line fault) = name_of Configuration
+update_subject root (causes.BadMount line fault) = name_of Mounts
+update_subject root (causes.ReadFault file) = name_of file
+update_subject root causes.RootMissing = root
+update_subject root cause = []
 
--- the same of `updatedb`
-abbrev pub IsUpdatedb : Option Asked → (UpdatedbAsked → Type 0) → Type 0
-IsUpdatedb None P = ⊤
-IsUpdatedb (Some (Updatedb settings)) P = P settings
-IsUpdatedb (Some (Locate settings)) P = ⊤
-IsUpdatedb (Some (Convert settings)) P = ⊤
-IsUpdatedb (Some (Exercise settings)) P = ⊤
-
--- the directory that messages name
-abbrev pub root_of : Option Asked → List ℕ
-root_of None = []
-root_of (Some (Updatedb settings)) = settings.root
-root_of (Some (Locate settings)) = []
-root_of (Some (Convert settings)) = []
-root_of (Some (Exercise settings)) = []
+-- the name that the message of a cause speaks of, where it speaks of one
+abbrev pub subject_of : Option Asked → Cause → List ℕ
+subject_of None cause = []
+subject_of (Some (Updatedb settings)) cause = update_subject settings.root cause
+subject_of (Some (Locate settings)) cause = []
+subject_of (Some (Convert settings)) cause = []
+subject_of (Some (Exercise settings)) cause = []

@@ -6,8 +6,6 @@ use Rattle.byte_feed.specs.declared.damage.DamageCause.TheVariants as damages
 use Rattle.mount_table.specs.declared.fault.MountCause.{MountCause}
 use Rattle.mount_table.specs.declared.fault.MountCause.TheVariants as mounts
 use Rattle.updatedb_conf.specs.Texts.{text_of as conf_text}
-use Rattle.database_update.specs.SettingsFiles.{name_of}
-use Rattle.database_update.specs.declared.settings_file.SettingsFile.TheVariants.{Configuration, Mounts}
 use Rattle.locate_engine.specs.declared.outcome.Outcome.{Outcome}
 use Rattle.locate_engine.specs.declared.outcome.Outcome.TheVariants as outcomes
 use Rattle.locate_engine.specs.declared.counting.Stats.{Stats}
@@ -76,20 +74,20 @@ outcome_message tool name outcomes.TooLarge = line_about tool name (codes "too l
 outcome_message tool name outcomes.LimitReached = []
 outcome_message tool name outcomes.WriteFault = []
 
--- what is told of a run by this tool that was to scan this root, where the tool scans
+-- what is told of a run by this tool that ends so, of the subject that the cause speaks of
 abbrev pub cause_message : List ℕ → List ℕ → Cause → List ℕ
-cause_message tool root causes.Done = []
-cause_message tool root causes.NoMatch = []
-cause_message tool root causes.Usage = line tool (codes "bad usage")
-cause_message tool root (causes.BadConf number fault) = numbered_line tool (name_of Configuration) (decimal number) (conf_text fault)
-cause_message tool root (causes.BadMount number fault) = numbered_line tool (name_of Mounts) (decimal number) (mount_text fault)
-cause_message tool root causes.RootMissing = line_about tool root (codes "no such directory")
-cause_message tool root (causes.ReadFault file) = line_about tool (name_of file) (codes "read fault")
-cause_message tool root causes.WriteFault = line tool (codes "write fault")
-cause_message tool root causes.OutOfMemory = line tool (codes "out of memory")
-cause_message tool root causes.TreeFault = line tool (codes "tree fault")
-cause_message tool root causes.TooManyNames = line tool (codes "too many names")
-cause_message tool root causes.TooManyDirectories = line tool (codes "too many directories")
+cause_message tool subject causes.Done = []
+cause_message tool subject causes.NoMatch = []
+cause_message tool subject causes.Usage = line tool (codes "bad usage")
+cause_message tool subject (causes.BadConf number fault) = numbered_line tool subject (decimal number) (conf_text fault)
+cause_message tool subject (causes.BadMount number fault) = numbered_line tool subject (decimal number) (mount_text fault)
+cause_message tool subject causes.RootMissing = line_about tool subject (codes "no such directory")
+cause_message tool subject (causes.ReadFault file) = line_about tool subject (codes "read fault")
+cause_message tool subject causes.WriteFault = line tool (codes "write fault")
+cause_message tool subject causes.OutOfMemory = line tool (codes "out of memory")
+cause_message tool subject causes.TreeFault = line tool (codes "tree fault")
+cause_message tool subject causes.TooManyNames = line tool (codes "too many names")
+cause_message tool subject causes.TooManyDirectories = line tool (codes "too many directories")
 
 -- ---- statistics
 

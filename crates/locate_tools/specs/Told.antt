@@ -5,7 +5,7 @@ use Rattle.loc_outside.specs.Causes.{Rose}
 use Rattle.loc_outside.specs.Outside.{AppendsPart}
 use Rattle.locate_engine.specs.declared.outcome.Outcome.{Outcome}
 use Rattle.tool_words.specs.Asked.{Asked, Updatedb, Locate, Convert, Exercise}
-use Rattle.locate_tools.specs.Calls.{CallMade, request_of, root_of, speaker_of}
+use Rattle.locate_tools.specs.Calls.{CallMade, request_of, speaker_of, subject_of}
 use Rattle.locate_tools.specs.Located.{databases_of}
 use Rattle.locate_tools.specs.Messages.{outcome_message, cause_message}
 use Rattle.locate_tools.specs.declared.answer.Cause.{Cause}
@@ -30,7 +30,7 @@ messages_of (Some (Exercise settings)) outcomes = []
 
 -- what is told of a run: how each database ended, and then the cause
 abbrev pub told : CallMade → List Outcome → Cause → List ℕ
-told call outcomes cause = messages_of (request_of call) outcomes ++ cause_message (speaker_of call) (root_of (request_of call)) cause
+told call outcomes cause = messages_of (request_of call) outcomes ++ cause_message (speaker_of call) (subject_of (request_of call) cause) cause
 
 -- A text was told, or, where a write failed, a first part of it.
 abbrev pub TellsAs : Bool → ℕ → ℕ → Option (List ℕ) → Option (List ℕ) → List ℕ → Type 0

@@ -9,7 +9,7 @@ mod databases;
 #[cfg(test)]
 mod format_tests;
 mod lines;
-mod located;
+mod locate_run;
 mod messages;
 mod run;
 mod statistics_text;
@@ -17,7 +17,7 @@ mod task;
 mod telling;
 #[cfg(test)]
 mod tests;
-mod updated;
+mod updatedb_run;
 #[cfg(test)]
 mod updatedb_tests;
 

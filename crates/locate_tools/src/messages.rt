@@ -3,10 +3,12 @@ ghost use Rattle.std.specs.Prelude.{◌≡◌, ◌++◌, ◌≤◌, OnOk, OnErr}
 ghost use Rattle.std.specs.Io.KnownBytes.{Appends};
 ghost use Rattle.loc_outside.specs.Causes.{HasCause};
 ghost use Rattle.loc_outside.specs.Outside.{AppendsPart};
+ghost use Rattle.locate_tools.specs.Calls.{update_subject as subject_of_update};
 ghost use Rattle.locate_tools.specs.Messages.{cause_message, mount_text as text_of_mount, outcome_message};
 
 use crate::answer::Cause;
 use crate::lines::{put_pieces, tell, tell_about, tell_damage, tell_numbered};
+use database_update::SettingsFile;
 use loc_outside::{Failed, Sink};
 use locate_engine::Outcome;
 use mount_table::MountCause;
@@ -49,25 +51,41 @@ pub fn tell_outcome<E: Sink>(
     }
 }
 
-/// Tells why a run of this tool ended as it did, which was to scan this root, where the tool scans. After `Failed` a
-/// first part of the message was taken.
-pub fn tell_cause<E: Sink>(err: &mut E, tool: &str, root: &[u8], cause: Cause) -> Result<(), Failed>
-    ensures ok { OnOk result (Appends (E.taken err.old) (E.taken err.new) (cause_message tool.now root.now cause)) }
-    ensures part { OnErr result (AppendsPart (E.taken err.old) (E.taken err.new) (cause_message tool.now root.now cause)) }
+/// The name that the message of a cause of `updatedb` speaks of: a settings file, or the root.
+pub fn update_subject(root: &[u8], cause: Cause) -> &[u8]
+    ensures { result.now ≡ subject_of_update root.now cause }
+{
+    match cause {
+        Cause::BadConf { .. } => SettingsFile::Configuration.name().as_bytes(),
+        Cause::BadMount { .. } => SettingsFile::Mounts.name().as_bytes(),
+        Cause::ReadFault(file) => file.name().as_bytes(),
+        Cause::RootMissing => root,
+        _ => b"",
+    }
+}
+
+/// Tells why a run of this tool ended as it did, with the name of the file or directory that the cause speaks of. After
+/// `Failed` a first part of the message was taken.
+pub fn tell_cause<E: Sink>(
+    err: &mut E,
+    tool: &str,
+    subject: &[u8],
+    cause: Cause,
+) -> Result<(), Failed>
+    ensures ok { OnOk result (Appends (E.taken err.old) (E.taken err.new) (cause_message tool.now subject.now cause)) }
+    ensures part { OnErr result (AppendsPart (E.taken err.old) (E.taken err.new) (cause_message tool.now subject.now cause)) }
     ensures cause { HasCause (E.faults err.old) (E.faults err.new) result }
     ensures kept { E.kept err.old err.new }
 {
     match cause {
         Cause::Done | Cause::NoMatch => put_pieces(err, &[]),
         Cause::Usage => tell(err, tool, b"bad usage"),
-        Cause::BadConf { line, fault } => {
-            tell_numbered(err, tool, b"/etc/updatedb.conf", line, fault.text())
-        }
+        Cause::BadConf { line, fault } => { tell_numbered(err, tool, subject, line, fault.text()) }
         Cause::BadMount { line, fault } => {
-            tell_numbered(err, tool, b"/proc/self/mountinfo", line, mount_text(fault))
+            tell_numbered(err, tool, subject, line, mount_text(fault))
         }
-        Cause::RootMissing => tell_about(err, tool, root, b"no such directory"),
-        Cause::ReadFault(file) => tell_about(err, tool, file.name().as_bytes(), b"read fault"),
+        Cause::RootMissing => tell_about(err, tool, subject, b"no such directory"),
+        Cause::ReadFault(_) => tell_about(err, tool, subject, b"read fault"),
         Cause::WriteFault => tell(err, tool, b"write fault"),
         Cause::OutOfMemory => tell(err, tool, b"out of memory"),
         Cause::TreeFault => tell(err, tool, b"tree fault"),

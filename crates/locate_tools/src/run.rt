@@ -6,7 +6,7 @@ ghost use Rattle.loc_outside.specs.Outside.{AppendsPart};
 ghost use Rattle.tool_words.specs.LocateSeen.{seen as locate_seen};
 ghost use Rattle.tool_words.specs.UpdatedbSeen.{seen as updatedb_seen};
 ghost use Rattle.tool_words.specs.Tools.{speaker as speaker_of_tool};
-ghost use Rattle.locate_tools.specs.Calls.{request_of};
+ghost use Rattle.locate_tools.specs.Calls.{request_of, update_subject as subject_of_update};
 ghost use Rattle.locate_tools.specs.Does.{Does, Leaves};
 ghost use Rattle.locate_tools.specs.Located.{databases_of};
 ghost use Rattle.locate_tools.specs.Messages.{cause_message};
@@ -19,10 +19,11 @@ ghost use Rattle.locate_tools.specs.Updates.{UpdatedbRun};
 
 use crate::answer::{Cause, Ending, Outcomes};
 use crate::call::Call;
-use crate::located::locate;
+use crate::locate_run::locate;
+use crate::messages::update_subject;
 use crate::task::Task;
 use crate::telling::tell_end;
-use crate::updated::updatedb;
+use crate::updatedb_run::updatedb;
 use loc_outside::{BufferedSink, Gate, Output, Reader, Sink, Tree};
 use path_order::Stamp;
 use std::alloc::Global;
@@ -35,18 +36,18 @@ fn ended<E: Sink>(
     alloc: Global,
     err: &mut E,
     tool: Option<Tool>,
-    root: &[u8],
+    subject: &[u8],
     cause: Cause,
 ) -> Ending
     ensures status { result.status ≡ status_of tool cause }
     ensures cause { result.cause ≡ cause }
     ensures outcomes { result.outcomes ≡ [] }
-    ensures told { (Rose (E.faults err.old) (E.faults err.new) → ⊥) → Appends (E.taken err.old) (E.taken err.new) (cause_message (speaker_of_tool tool) root.now cause) }
-    ensures told_part { AppendsPart (E.taken err.old) (E.taken err.new) (cause_message (speaker_of_tool tool) root.now cause) }
+    ensures told { (Rose (E.faults err.old) (E.faults err.new) → ⊥) → Appends (E.taken err.old) (E.taken err.new) (cause_message (speaker_of_tool tool) subject.now cause) }
+    ensures told_part { AppendsPart (E.taken err.old) (E.taken err.new) (cause_message (speaker_of_tool tool) subject.now cause) }
     ensures err_later { E.faults err.old ≤ E.faults err.new }
     ensures err_kept { E.kept err.old err.new }
 {
-    tell_end(err, false, speaker(tool), root, cause);
+    tell_end(err, false, speaker(tool), subject, cause);
     Ending {
         status: cause.status(tool),
         cause,
@@ -113,8 +114,8 @@ fn run_updatedb<R: Reader, T: Tree, O: Output, P: BufferedSink, E: Sink>(
         (record { files = R.files reader.old; given = R.given reader.old; reads_failed = R.faults reader.old; dirs = T.dirs tree.old; openings = T.openings tree.old; stats = T.stats tree.old; priced = T.priced tree.old; tree_failed = T.faults tree.old; held = O.held output.old; begins = O.begins output.old; output_failed = O.faults output.old; taken = P.taken out.old; held_back = P.held_back out.old; writes_failed = P.faults out.old })
         (record { files = R.files reader.new; given = R.given reader.new; reads_failed = R.faults reader.new; dirs = T.dirs tree.new; openings = T.openings tree.new; stats = T.stats tree.new; priced = T.priced tree.new; tree_failed = T.faults tree.new; held = O.held output.new; begins = O.begins output.new; output_failed = O.faults output.new; taken = P.taken out.new; held_back = P.held_back out.new; writes_failed = P.faults out.new })
         result.cause }
-    ensures told { (Rose (E.faults err.old) (E.faults err.new) → ⊥) → Appends (E.taken err.old) (E.taken err.new) (cause_message (speaker_of_tool (Some Tool.Updatedb)) asked.now.root.now result.cause) }
-    ensures told_part { AppendsPart (E.taken err.old) (E.taken err.new) (cause_message (speaker_of_tool (Some Tool.Updatedb)) asked.now.root.now result.cause) }
+    ensures told { (Rose (E.faults err.old) (E.faults err.new) → ⊥) → Appends (E.taken err.old) (E.taken err.new) (cause_message (speaker_of_tool (Some Tool.Updatedb)) (subject_of_update asked.now.root.now result.cause) result.cause) }
+    ensures told_part { AppendsPart (E.taken err.old) (E.taken err.new) (cause_message (speaker_of_tool (Some Tool.Updatedb)) (subject_of_update asked.now.root.now result.cause) result.cause) }
     ensures files { R.files reader.new ≡ R.files reader.old }
     ensures tree_kept { T.kept tree.old tree.new }
     ensures out_kept { P.kept out.old out.new }
@@ -126,7 +127,7 @@ fn run_updatedb<R: Reader, T: Tree, O: Output, P: BufferedSink, E: Sink>(
         alloc,
         err,
         Some(Tool::Updatedb),
-        asked.root.as_bytes(),
+        update_subject(asked.root.as_bytes(), cause),
         cause,
     )
 }

@@ -45,10 +45,10 @@ pub fn tell_after<E: Sink>(
     tell_next(err, name, outcome)
 }
 
-/// Tells why a run ended, unless a write has failed before.
-pub fn tell_end<E: Sink>(err: &mut E, failed: bool, tool: &str, root: &[u8], cause: Cause)
-    ensures told { failed ≡ false → (Rose (E.faults err.old) (E.faults err.new) → ⊥) → Appends (E.taken err.old) (E.taken err.new) (cause_message tool.now root.now cause) }
-    ensures part { failed ≡ false → AppendsPart (E.taken err.old) (E.taken err.new) (cause_message tool.now root.now cause) }
+/// Tells why a run ended, with the name that the cause speaks of, unless a write has failed before.
+pub fn tell_end<E: Sink>(err: &mut E, failed: bool, tool: &str, subject: &[u8], cause: Cause)
+    ensures told { failed ≡ false → (Rose (E.faults err.old) (E.faults err.new) → ⊥) → Appends (E.taken err.old) (E.taken err.new) (cause_message tool.now subject.now cause) }
+    ensures part { failed ≡ false → AppendsPart (E.taken err.old) (E.taken err.new) (cause_message tool.now subject.now cause) }
     ensures silent { failed ≡ true → err.new ≡ err.old }
     ensures later { E.faults err.old ≤ E.faults err.new }
     ensures kept { E.kept err.old err.new }
@@ -56,5 +56,5 @@ pub fn tell_end<E: Sink>(err: &mut E, failed: bool, tool: &str, root: &[u8], cau
     if failed {
         return;
     }
-    let _ = tell_cause(err, tool, root, cause);
+    let _ = tell_cause(err, tool, subject, cause);
 }

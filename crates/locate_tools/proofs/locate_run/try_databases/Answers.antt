@@ -2,7 +2,7 @@ use Rattle.std.proofs.Common.{◌≡◌, ◌+◌, false, rules, arith, sym, ap, 
 use Rattle.std.proofs.lemmas.List.{length-map, length_push}
 use Rattle.locate_tools.specs.Standing.{ends_run}
 use Rattle.locate_tools.proofs.Going.{complete_all, complete_next, goes_next, matched_next, on_next, tells_next}
-use Rattle.locate_tools.proofs.located.try_databases.Goals as goal
+use Rattle.locate_tools.proofs.locate_run.try_databases.Goals as goal
 
 pub returns-then-ends_run-clause-goes : goal.returns-then-ends_run-clause-goes
 returns-then-ends_run-clause-goes g c =

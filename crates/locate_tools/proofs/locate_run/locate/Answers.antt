@@ -5,7 +5,7 @@ use Rattle.locate_tools.specs.Standing.{standing}
 use Rattle.locate_tools.specs.Ran.{Concludes}
 use Rattle.locate_tools.proofs.Queries.{below_query, none_of, ran_by}
 use Rattle.locate_tools.proofs.Runs.{run_done}
-use Rattle.locate_tools.proofs.located.locate.Goals as goal
+use Rattle.locate_tools.proofs.locate_run.locate.Goals as goal
 
 pub try_databases-silent-requires-clause-below : goal.try_databases-silent-requires-clause-below
 try_databases-silent-requires-clause-below g c = λ plain some. below_query c.in-Ok.query _ c.in-Ok.ensures (c.databases_of-names.ensures.asks plain some)

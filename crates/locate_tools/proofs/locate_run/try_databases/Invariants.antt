@@ -4,7 +4,7 @@ use Rattle.locate_tools.specs.Standing.{Goes, standing}
 use Rattle.locate_tools.specs.Tried.{Tried, known}
 use Rattle.locate_tools.specs.Told.{TellsAs, messages}
 use Rattle.locate_tools.proofs.Going.{GoOn}
-use Rattle.locate_tools.proofs.located.try_databases.Given as goal
+use Rattle.locate_tools.proofs.locate_run.try_databases.Given as goal
 
 abbrev pub invariant-loop-name : goal.invariant-loop-name
 invariant-loop-name g l = record {

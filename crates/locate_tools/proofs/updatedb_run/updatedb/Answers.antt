@@ -2,7 +2,7 @@ use Rattle.std.specs.Prelude.{Err}
 use Rattle.std.proofs.Common.{ap, inr, ◌∙◌}
 use Rattle.locate_tools.specs.Updates.{cause_of}
 use Rattle.locate_tools.proofs.Updating.{faulted, follows_as, lacks_as, not_of_locate, not_of_words, passed_on_by, refuses_as}
-use Rattle.locate_tools.proofs.updated.updatedb.Goals as goal
+use Rattle.locate_tools.proofs.updatedb_run.updatedb.Goals as goal
 
 pub returns-in-Err-clause-run : goal.returns-in-Err-clause-run
 returns-in-Err-clause-run g c =
