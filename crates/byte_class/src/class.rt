@@ -1,10 +1,11 @@
 //! Character classes.
-ghost use Rattle.std.specs.Prelude.{◌≡◌};
-ghost use Rattle.glob_match.specs.Class.{class_named, class_has};
+ghost use Rattle.std.specs.Prelude.{◌≡◌, ◌+◌, ◌≤◌, length, IfSome};
+ghost use Rattle.std.specs.List.{prefix_len};
+ghost use Rattle.byte_class.specs.Class.{is_alpha, class_named, class_has, class_at};
 
 /// A character class of the POSIX locale.
 #[derive(Clone, Copy)]
-pub(crate) enum Class {
+pub enum Class {
     Alpha,
     Digit,
     Alnum,
@@ -22,7 +23,7 @@ pub(crate) enum Class {
 impl Class {
     /// The class of a name, if there is one.
     #[tactic(auto, unfolding(crate::specs::Class::class_named))]
-    pub(crate) fn named(name: &[u8]) -> Option<Class>
+    pub fn named(name: &[u8]) -> Option<Class>
         ensures { result ≡ class_named name.now }
     {
         if name == b"alpha".as_slice() {
@@ -56,7 +57,7 @@ impl Class {
 
     /// Whether the class has the byte.
     #[tactic(auto, using(crate::proofs::Classes::class_tests), unfolding(crate::specs::Class::class_has))]
-    pub(crate) fn has(self, byte: u8) -> bool
+    pub fn has(self, byte: u8) -> bool
         ensures { result ≡ class_has self byte }
     {
         match self {
@@ -73,5 +74,35 @@ impl Class {
             Class::Print => byte.is_ascii_graphic() || byte == b' ',
             Class::Punct => byte.is_ascii_punctuation(),
         }
+    }
+}
+
+/// How many letters a text begins with.
+fn letters(text: &[u8]) -> usize
+    ensures value { result ≡ prefix_len is_alpha text.now }
+    ensures within { result ≤ length text.now }
+{
+    let mut n = 0;
+    while n < text.len() && text[n].is_ascii_alphabetic() {
+        n += 1;
+    }
+    n
+}
+
+/// The length of the name of the class that stands first, if one does.
+#[tactic(auto, unfolding(crate::specs::Class::class_at))]
+pub fn read_class(text: &[u8]) -> Option<usize>
+    ensures value { result ≡ class_at text.now }
+    ensures within { IfSome result (λ letters. letters + 4 ≤ length text.now) }
+{
+    if !text.starts_with(b"[:") {
+        return None;
+    }
+    let inside = &text[2..];
+    let len = letters(inside);
+    if inside[len..].starts_with(b":]") {
+        Some(len)
+    } else {
+        None
     }
 }

@@ -1,28 +1,27 @@
 //! Sets of bytes.
 ghost use Rattle.std.specs.Prelude.{◌≡◌, ℕ, ◌<◌, ◌==◌, ◌||◌, true, false};
 ghost use Rattle.std.specs.Int.{is_in_range};
-ghost use Rattle.glob_match.specs.Bracket.{folded, in_set};
-ghost use Rattle.glob_match.specs.Class.{class_has};
-ghost use Rattle.glob_match.specs.ByteSet.{has};
+ghost use Rattle.byte_class.specs.ByteSet.{has, folded, in_set};
+ghost use Rattle.byte_class.specs.Class.{class_has};
 
 use crate::class::Class;
 
 /// A set of bytes, with one bit for each byte.
 #[derive(Clone, Copy)]
-pub(crate) struct ByteSet {
+pub struct ByteSet {
     words: [u64; 4],
 }
 
 impl ByteSet {
     /// The set with no byte.
-    pub(crate) fn new() -> ByteSet
+    pub fn new() -> ByteSet
         ensures { (byte : ℕ) → byte < 256 → has result byte ≡ false }
     {
         ByteSet { words: [0; 4] }
     }
 
     /// The set of every byte.
-    pub(crate) fn all() -> ByteSet
+    pub fn all() -> ByteSet
         ensures { (byte : ℕ) → byte < 256 → has result byte ≡ true }
     {
         ByteSet {
@@ -32,21 +31,21 @@ impl ByteSet {
 
     /// Whether the set has the byte.
     #[inline(always)]
-    pub(crate) fn contains(&self, byte: u8) -> bool
+    pub fn contains(&self, byte: u8) -> bool
         ensures { result ≡ has self.now byte }
     {
         (self.words[byte as usize / 64] >> (byte % 64)) & 1 == 1
     }
 
     /// Inserts the byte.
-    pub(crate) fn insert(&mut self, byte: u8)
+    pub fn insert(&mut self, byte: u8)
         ensures { (other : ℕ) → other < 256 → has self.new other ≡ (has self.old other || other == byte) }
     {
         self.words[byte as usize / 64] |= 1 << (byte % 64);
     }
 
     /// Inserts each byte from `low` to `high`, none where `high` is below.
-    pub(crate) fn insert_range(&mut self, low: u8, high: u8)
+    pub fn insert_range(&mut self, low: u8, high: u8)
         ensures { (other : ℕ) → other < 256 → has self.new other ≡ (has self.old other || is_in_range low high other) }
     {
         for n in low as usize..high as usize + 1 {
@@ -55,7 +54,7 @@ impl ByteSet {
     }
 
     /// Inserts each byte of the class.
-    pub(crate) fn insert_class(&mut self, class: Class)
+    pub fn insert_class(&mut self, class: Class)
         ensures { (other : ℕ) → other < 256 → has self.new other ≡ (has self.old other || class_has class other) }
     {
         for n in 0..256usize {
@@ -67,8 +66,8 @@ impl ByteSet {
     }
 
     /// The set closed under ASCII case, where `fold`, and then complemented, where `complement`.
-    #[tactic(auto, unfolding(crate::specs::Bracket::in_set))]
-    pub(crate) fn closed(&self, fold: bool, complement: bool) -> ByteSet
+    #[tactic(auto, unfolding(crate::specs::ByteSet::in_set))]
+    pub fn closed(&self, fold: bool, complement: bool) -> ByteSet
         ensures { (other : ℕ) → other < 256 → has result other ≡ in_set fold complement (has self.now) other }
     {
         let mut closed = ByteSet::new();
@@ -82,7 +81,7 @@ impl ByteSet {
     }
 
     /// Whether the set has the byte or, where `fold`, the byte in either case.
-    #[tactic(auto, unfolding(crate::specs::Bracket::folded))]
+    #[tactic(auto, unfolding(crate::specs::ByteSet::folded))]
     fn contains_folded(&self, fold: bool, byte: u8) -> bool
         ensures { result ≡ folded fold (has self.now) byte }
     {

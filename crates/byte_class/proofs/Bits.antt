@@ -4,7 +4,7 @@ use Rattle.std.specs.Int.{bit_at}
 use Rattle.std.specs.Int.Bits.{bit_or}
 use Rattle.std.proofs.lemmas.Bool.{cases_eq, eq-eqb, ne_eqb, or_right}
 use Rattle.std.proofs.lemmas.Nat.Bits.{bit_at_set_same, bit_at_set_other, bit_at-zero, bit_at_ones}
-use Rattle.glob_match.specs.ByteSet.{has}
+use Rattle.byte_class.specs.ByteSet.{has}
 
 or_none : (b : Bool) → b ≡ (b || false)
 or_none true = refl

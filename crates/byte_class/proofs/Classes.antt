@@ -2,8 +2,8 @@
 use Rattle.std.proofs.Common.{◌≡◌, ℕ, ◌<◌, ◌||◌, ◌==◌, refl}
 use Rattle.std.specs.Char.{is_ascii_alphanumeric, is_ascii_hexdigit, is_ascii_whitespace, is_ascii_control, is_ascii_graphic, is_ascii_punctuation}
 use Rattle.std.proofs.lemmas.Bool.{agree_below_at}
-use Rattle.glob_match.specs.declared.class.Class.TheVariants.{Alnum, Xdigit, Space, Cntrl, Print, Punct}
-use Rattle.glob_match.specs.Class.{class_has}
+use Rattle.byte_class.specs.declared.class.Class.TheVariants.{Alnum, Xdigit, Space, Cntrl, Print, Punct}
+use Rattle.byte_class.specs.Class.{class_has}
 
 pub alnum_same : (byte : ℕ) → byte < 256 → is_ascii_alphanumeric byte ≡ class_has Alnum byte
 unfolding class_has

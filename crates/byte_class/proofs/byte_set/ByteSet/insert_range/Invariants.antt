@@ -1,6 +1,6 @@
 use Rattle.std.proofs.Common.{◌≡◌, ℕ, ◌+◌, ◌<◌, ◌≤◌, ◌||◌, ◌&&◌, max, leb, ltb}
-use Rattle.glob_match.specs.ByteSet.{has}
-use Rattle.glob_match.proofs.byte_set.ByteSet.insert_range.Given as goal
+use Rattle.byte_class.specs.ByteSet.{has}
+use Rattle.byte_class.proofs.byte_set.ByteSet.insert_range.Given as goal
 
 abbrev pub invariant-loop-n : goal.invariant-loop-n
 invariant-loop-n l =

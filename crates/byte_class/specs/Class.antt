@@ -1,9 +1,10 @@
 -- The character classes of bracket expressions in the POSIX locale.
-use Rattle.std.specs.Prelude.{ℕ, Bool, false, ◌||◌, ◌&&◌, ◌==◌, not, List, Option, Some, None, codes, if◌then◌else◌}
+use Rattle.std.specs.Prelude.{ℕ, Bool, false, ◌||◌, ◌&&◌, ◌==◌, not, List, drop, Option, Some, None, codes, if◌then◌else◌, nat_eq}
 use Rattle.std.specs.Int.{is_in_range}
+use Rattle.std.specs.List.{starts_with, prefix_len}
 use Rattle.std.specs.Str.{bytes_eq}
-use Rattle.glob_match.specs.declared.class.Class.{Class}
-use Rattle.glob_match.specs.declared.class.Class.TheVariants.{Alpha, Digit, Alnum, Lower, Upper, Xdigit, Blank, Space, Cntrl, Graph, Print, Punct}
+use Rattle.byte_class.specs.declared.class.Class.{Class}
+use Rattle.byte_class.specs.declared.class.Class.TheVariants.{Alpha, Digit, Alnum, Lower, Upper, Xdigit, Blank, Space, Cntrl, Graph, Print, Punct}
 
 -- the class of a name
 unfoldable pub class_named : List ℕ → Option Class
@@ -48,3 +49,11 @@ class_has Punct byte = is_in_range 33 126 byte && not (is_alnum byte)
 unfoldable pub name_has : Option Class → ℕ → Bool
 name_has None byte = false
 name_has (Some class) byte = class_has class byte
+
+-- the length of the name of the class that stands first, as `[:`, letters, `:]`
+unfoldable pub class_at : List ℕ → Option ℕ
+class_at text =
+    let inside = drop 2 text in
+    let letters = prefix_len is_alpha inside in
+    if starts_with nat_eq text (codes "[:") && starts_with nat_eq (drop letters inside) (codes ":]")
+    then Some letters else None

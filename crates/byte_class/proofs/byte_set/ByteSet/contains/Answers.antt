@@ -1,7 +1,7 @@
 use Rattle.std.proofs.Common.{ap, ◌/◌, ◌%◌, ◌==◌, slice_index}
 use Rattle.std.proofs.lemmas.Nat.Bits.{shr_and_one}
-use Rattle.glob_match.specs.ByteSet.{has}
-use Rattle.glob_match.proofs.byte_set.ByteSet.contains.Goals as goal
+use Rattle.byte_class.specs.ByteSet.{has}
+use Rattle.byte_class.proofs.byte_set.ByteSet.contains.Goals as goal
 
 pub returns : goal.returns
 unfolding has
