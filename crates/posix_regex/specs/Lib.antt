@@ -3,6 +3,7 @@ pub mod Expression
 pub mod Fragment
 pub mod Interval
 pub mod Lex
+pub mod Moves
 pub mod Pattern
 pub mod Program
 pub mod Reader

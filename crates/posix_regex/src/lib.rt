@@ -5,11 +5,14 @@ mod bracket;
 mod fault;
 mod fragment;
 mod interval;
+pub mod laws;
 mod lex;
 mod pattern;
 mod reader;
 mod regex;
 mod states;
+#[cfg(test)]
+mod tests;
 mod token;
 
 pub use fault::{RegexCause, RegexFault};
