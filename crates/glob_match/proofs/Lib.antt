@@ -1,5 +1,3 @@
-pub mod Bits
-pub mod Classes
 pub mod Cost
 pub mod Members
 pub mod Parts

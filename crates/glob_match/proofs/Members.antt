@@ -1,48 +1,15 @@
--- The bytes that pass a test.
+-- What an item takes.
 use Rattle.std.proofs.Common.{◌≡◌, ℕ, zero, suc, ◌+◌, ◌<◌, Bool, true, false, List, [], ◌∷◌, length, get_or, filter, cond, map, Contains, IfSome, IsTrue, ◌↔◌, ◌==◌, Some, option_map, slice_get, refl, sym, ap, ◌∙◌, arith}
-use Rattle.std.specs.List.{range_with_len}
 use Rattle.std.proofs.lemmas.List.{length-map}
 use Rattle.std.proofs.lemmas.Option.{slice_get-map, slice_get_read}
-use Rattle.std.proofs.lemmas.List.Elements.{All-contains, filter_passes}
-use Rattle.std.proofs.lemmas.List.FromFn.{length-range_with_len, get_or-range_with_len}
 use Rattle.glob_match.specs.declared.items.Stored.{Stored}
 use Rattle.glob_match.specs.declared.items.Stored.TheVariants.{Byte, Set}
-use Rattle.glob_match.specs.declared.byte_set.ByteSet.{ByteSet}
-use Rattle.glob_match.specs.ByteSet.{has}
+use Rattle.byte_class.specs.declared.byte_set.ByteSet.{ByteSet}
+use Rattle.byte_class.specs.ByteSet.{has}
 use Rattle.glob_match.specs.Stored.{item_of}
-use Rattle.glob_match.specs.Item.{Item, OneOf, members, Takes}
-
-pub members_pass : (test : ℕ → Bool) (byte : ℕ) → Contains (members test) byte → test byte ≡ true
-unfolding members
-members_pass test byte h = All-contains (λ x. test x ≡ true) (filter test (range_with_len 0 256)) byte (filter_passes test (range_with_len 0 256)) h
-
-later : (x y : ℕ) (ys : List ℕ) → Contains ys x → Contains (y ∷ ys) x
-later x y ys h = (suc h.0, omega (arith, h.1), h.2)
-
-kept_head : (test : ℕ → Bool) (x y : ℕ) (ys : List ℕ) → y ≡ x → test x ≡ true → Contains (filter test (y ∷ ys)) x
-kept_head test x y ys same passes = rw (ap test same ∙ passes) (0, omega arith, same)
-
-kept_tail : (test : ℕ → Bool) (x y : ℕ) (ys : List ℕ) (b : Bool) → Contains (filter test ys) x → Contains (cond b (y ∷ filter test ys) (filter test ys)) x
-kept_tail test x y ys true h = later x y (filter test ys) h
-kept_tail test x y ys false h = h
-
-kept_at : (test : ℕ → Bool) (xs : List ℕ) (x k : ℕ) → k < length xs → get_or xs k x ≡ x → test x ≡ true → Contains (filter test xs) x
-kept_at test [] x k within is passes = absurd (omega arith)
-kept_at test (y ∷ ys) x zero within is passes = kept_head test x y ys is passes
-kept_at test (y ∷ ys) x (suc k) within is passes = kept_tail test x y ys (test y) (kept_at test ys x k (omega arith) is passes)
-
-pub members_with : (test : ℕ → Bool) (byte : ℕ) → byte < 256 → test byte ≡ true → Contains (members test) byte
-unfolding members
-members_with test byte fits passes = kept_at test (range_with_len 0 256) byte byte (omega (arith, length-range_with_len 0 256)) (get_or-range_with_len 0 256 byte byte fits ∙ omega arith) passes
-
-agree_on : (p q : ℕ → Bool) (a n : ℕ) → ((byte : ℕ) → byte < a + n → p byte ≡ q byte) → filter p (range_with_len a n) ≡ filter q (range_with_len a n)
-agree_on p q a zero h = refl
-agree_on p q a (suc n) h = rw (h a (omega arith), agree_on p q (a + 1) n (λ byte lt. h byte (omega arith))) refl
-
--- two tests that agree at each byte have the same members
-pub members_agree : (p q : ℕ → Bool) → ((byte : ℕ) → byte < 256 → p byte ≡ q byte) → members p ≡ members q
-unfolding members
-members_agree p q h = agree_on p q 0 256 h
+use Rattle.byte_class.specs.ByteSet.{members}
+use Rattle.byte_class.proofs.Members.{members_pass, members_with}
+use Rattle.glob_match.specs.Item.{Item, OneOf, Takes}
 
 -- a test of a byte against the item at its place
 item_takes : (items : List Item) (at : ℕ) (test : ℕ → Bool) (byte : ℕ) (r : Bool) → slice_get items at ≡ Some (OneOf (members test)) → byte < 256 → r ≡ test byte → IfSome (slice_get items at) (λ item. IsTrue r ↔ Takes item byte)

@@ -1,25 +1,18 @@
 -- Reading the parts of a bracket expression one after another.
 use Rattle.std.proofs.Common.{◌≡◌, ℕ, zero, suc, ◌+◌, ◌-◌, ◌<◌, Bool, true, false, cond, ◌||◌, List, [], ◌∷◌, length, take, drop, get_or, Option, Some, None, option_map, IsSomeAnd, refl, sym, ap, ◌∙◌, arith, add-one, not, length-drop}
-use Rattle.std.specs.Char.{to_ascii_lowercase, to_ascii_uppercase}
-use Rattle.std.proofs.lemmas.Bool.Decides.{nat_tests}
 use Rattle.std.proofs.Math.Seq.{drop-cons, take_all}
 use Rattle.std.proofs.lemmas.List.{drop-drop}
 use Rattle.std.proofs.lemmas.Bool.{ne_eqb}
-use Rattle.glob_match.specs.declared.byte_set.ByteSet.{ByteSet}
-use Rattle.glob_match.specs.ByteSet.{has}
-use Rattle.glob_match.specs.Bracket.{Part, has_part, has_parts, part_at, after_part, parts, parts_first, folded, in_set, is_complement, bracket}
-use Rattle.glob_match.specs.Item.{Item, OneOf, members}
-use Rattle.glob_match.proofs.Members.{members_agree}
+use Rattle.byte_class.specs.declared.byte_set.ByteSet.{ByteSet}
+use Rattle.byte_class.specs.ByteSet.{has, members, folded, in_set}
+use Rattle.byte_class.specs.Part.{Part, has_part, has_parts}
+use Rattle.glob_match.specs.Bracket.{part_at, after_part, parts, parts_first, is_complement, bracket}
+use Rattle.glob_match.specs.Item.{Item, OneOf}
+use Rattle.byte_class.proofs.Members.{members_agree, in_set_agree}
 
 -- what a slice from a place on holds
 pub rest_is : (text : List ℕ) (at : ℕ) → take (length text - at) (drop at text) ≡ drop at text
 rest_is text at = take_all (length text - at) (drop at text) (omega (arith, length-drop at text))
-
-lower_fits : (byte : ℕ) → byte < 256 → to_ascii_lowercase byte < 256
-lower_fits byte fits = grind (arith, nat_tests)
-
-upper_fits : (byte : ℕ) → byte < 256 → to_ascii_uppercase byte < 256
-upper_fits byte fits = grind (arith, nat_tests)
 
 or_assoc : (a b c : Bool) → ((a || b) || c) ≡ (a || (b || c))
 or_assoc true b c = refl
@@ -90,16 +83,6 @@ Joins-closed set rest None h = h
 Joins-closed set rest (Some p) h = (h.0, λ byte fits. each byte fits) where
   each : (byte : ℕ) → byte < 256 → has_parts p.0 byte ≡ has set byte
   each byte fits = h.1 byte fits ∙ or_none (has set byte)
-
--- a test of a byte in either case asks of bytes alone
-folded_agree : (fold : Bool) (p q : ℕ → Bool) → ((byte : ℕ) → byte < 256 → p byte ≡ q byte) → (byte : ℕ) → byte < 256 → folded fold p byte ≡ folded fold q byte
-unfolding folded
-folded_agree false p q h byte fits = h byte fits
-folded_agree true p q h byte fits = rw (h (to_ascii_lowercase byte) (lower_fits byte fits), h (to_ascii_uppercase byte) (upper_fits byte fits)) refl
-
-pub in_set_agree : (fold complement : Bool) (p q : ℕ → Bool) → ((byte : ℕ) → byte < 256 → p byte ≡ q byte) → (byte : ℕ) → byte < 256 → in_set fold complement p byte ≡ in_set fold complement q byte
-unfolding in_set
-in_set_agree fold complement p q h byte fits = ap (λ b. cond complement (not b) b) (folded_agree fold p q h byte fits)
 
 marked : (complement : Bool) (text : List ℕ) (mark : ℕ) → mark ≡ cond complement 1 0 → cond complement (drop 1 text) text ≡ drop mark text
 marked true text mark e = ap (λ n. drop n text) (sym e)

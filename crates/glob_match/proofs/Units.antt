@@ -3,13 +3,12 @@ use Rattle.std.proofs.Common.{◌≡◌, ℕ, zero, suc, ◌+◌, ◌-◌, ◌<�
 use Rattle.std.proofs.lemmas.List.{drop-drop}
 use Rattle.std.proofs.lemmas.Bool.{ne_eqb, cond_both, false≢true}
 use Rattle.memchr.specs.Find.{FindsNeedle, OccursAt}
-use Rattle.glob_match.specs.declared.byte_set.ByteSet.{ByteSet}
-use Rattle.glob_match.specs.ByteSet.{has}
-use Rattle.glob_match.specs.Bracket.{folded, in_set, quoted, bracket}
-use Rattle.glob_match.specs.Item.{Item, Star, OneOf, members}
+use Rattle.byte_class.specs.declared.byte_set.ByteSet.{ByteSet}
+use Rattle.byte_class.specs.ByteSet.{has, members, folded, in_set}
+use Rattle.glob_match.specs.Bracket.{quoted, bracket}
+use Rattle.glob_match.specs.Item.{Item, Star, OneOf}
 use Rattle.glob_match.specs.Pattern.{Wanted, literal, any_byte, item_at, items, is_special, is_plain, wanted, items_of, wanted_of, InGlob}
-use Rattle.glob_match.proofs.Members.{members_agree}
-use Rattle.glob_match.proofs.Parts.{in_set_agree}
+use Rattle.byte_class.proofs.Members.{members_agree, in_set_agree}
 
 pub literal-exact : (byte : ℕ) → literal false byte ≡ OneOf (members (λ x. x == byte))
 unfolding literal folded

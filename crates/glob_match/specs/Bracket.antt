@@ -1,24 +1,9 @@
 -- Bracket expressions: what stands in them, and where they end.
 use Rattle.std.specs.Prelude.{ℕ, zero, suc, ◌+◌, ◌-◌, Bool, not, ◌||◌, ◌&&◌, ◌==◌, nat_eq, List, [], ◌∷◌, take, drop, slice_index, Option, Some, None, option_map, is_none, codes, if◌then◌else◌}
-use Rattle.std.specs.List.{list_any, starts_with, prefix_len}
-use Rattle.std.specs.Int.{is_in_range}
-use Rattle.std.specs.Char.{to_ascii_lowercase, to_ascii_uppercase}
-use Rattle.glob_match.specs.Class.{is_alpha, class_named, name_has}
-use Rattle.glob_match.specs.Item.{Item, OneOf, members}
-
--- what stands in a bracket expression: a character class by its name, or a range of bytes, also of one alone
-pub data Part : Type 0 where
-  Named : List ℕ → Part
-  Range : ℕ → ℕ → Part
-
--- whether a part has a byte; a range whose end is below its start has none
-unfoldable pub has_part : Part → ℕ → Bool
-has_part (Named name) byte = name_has (class_named name) byte
-has_part (Range low high) byte = is_in_range low high byte
-
--- whether some part has a byte
-unfoldable pub has_parts : List Part → ℕ → Bool
-has_parts parts byte = list_any (λ part. has_part part byte) parts
+use Rattle.byte_class.specs.ByteSet.{in_set, members}
+use Rattle.byte_class.specs.Class.{class_at}
+use Rattle.byte_class.specs.Part.{Part, Named, Range, has_parts}
+use Rattle.glob_match.specs.Item.{Item, OneOf}
 
 -- the byte that stands first, which a backslash may quote, and how many bytes it takes;
 -- a backslash at the end stands for itself, which in a bracket is never asked, as none closes then
@@ -26,14 +11,6 @@ unfoldable pub quoted : List ℕ → ℕ × ℕ
 quoted [] = (0, 0)
 quoted (x ∷ []) = (x, 1)
 quoted (x ∷ y ∷ text) = if x == 92 then (y, 2) else (x, 1)
-
--- the length of the name of the class that stands first, as `[:`, letters, `:]`
-unfoldable pub class_at : List ℕ → Option ℕ
-class_at text =
-    let inside = drop 2 text in
-    let letters = prefix_len is_alpha inside in
-    if starts_with nat_eq text (codes "[:") && starts_with nat_eq (drop letters inside) (codes ":]")
-    then Some letters else None
 
 -- the end of a range and how many bytes it takes with its `-`, where `-` stands first, and then neither the
 -- closing `]` nor a class
@@ -73,15 +50,6 @@ parts zero (x ∷ text) =
 unfoldable pub parts_first : List ℕ → Option (List Part × List ℕ)
 parts_first [] = None
 parts_first (x ∷ text) = after_part (part_at (x ∷ text)).0 (parts ((part_at (x ∷ text)).1 - 1) text)
-
--- whether a test holds of a byte or, where case is folded, of the byte in either case
-unfoldable pub folded : Bool → (ℕ → Bool) → ℕ → Bool
-folded fold test byte =
-    if fold then test (to_ascii_lowercase byte) || test (to_ascii_uppercase byte) else test byte
-
--- the set of a test, closed under case and then, where it is asked, complemented
-unfoldable pub in_set : Bool → Bool → (ℕ → Bool) → ℕ → Bool
-in_set fold complement test byte = if complement then not (folded fold test byte) else folded fold test byte
 
 -- whether the mark of a complement stands first, `!` or `^`
 unfoldable pub is_complement : List ℕ → Bool

@@ -1,6 +1,4 @@
 pub mod Bracket
-pub mod ByteSet
-pub mod Class
 pub mod Item
 pub mod Language
 pub mod Pattern

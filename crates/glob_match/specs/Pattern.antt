@@ -2,8 +2,9 @@
 use Rattle.std.specs.Prelude.{ℕ, zero, suc, ◌-◌, Bool, true, ◌||◌, ◌==◌, not, List, [], ◌∷◌, ◌++◌, length, drop, map, unwrap_or, Option, Some, None, if◌then◌else◌}
 use Rattle.std.specs.List.{list_all}
 use Rattle.memchr.specs.Find.{OccursAt}
-use Rattle.glob_match.specs.Bracket.{quoted, folded, bracket}
-use Rattle.glob_match.specs.Item.{Item, Star, OneOf, members}
+use Rattle.byte_class.specs.ByteSet.{folded, members}
+use Rattle.glob_match.specs.Bracket.{quoted, bracket}
+use Rattle.glob_match.specs.Item.{Item, Star, OneOf}
 use Rattle.glob_match.specs.Language.{Matches}
 
 -- the item of one byte, which stands for both its cases where case is folded

@@ -2,8 +2,8 @@
 use Rattle.std.specs.Prelude.{◌==◌}
 use Rattle.glob_match.specs.declared.items.Stored.{Stored}
 use Rattle.glob_match.specs.declared.items.Stored.TheVariants.{Star as KeptStar, Byte, Set}
-use Rattle.glob_match.specs.ByteSet.{has}
-use Rattle.glob_match.specs.Item.{Item, Star, OneOf, members}
+use Rattle.byte_class.specs.ByteSet.{has, members}
+use Rattle.glob_match.specs.Item.{Item, Star, OneOf}
 
 -- the item that is kept
 abbrev pub item_of : Stored → Item

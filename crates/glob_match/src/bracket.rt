@@ -1,13 +1,12 @@
 //! Bracket expressions.
 ghost use Rattle.std.specs.Prelude.{◌≡◌, ℕ, ◌+◌, ◌<◌, ◌≤◌, ◌==◌, ◌||◌, length, drop, IfSome, IfNone, IsSomeAnd, IsTrue, MatchOption};
-ghost use Rattle.std.specs.List.{prefix_len};
-ghost use Rattle.glob_match.specs.Bracket.{Part, has_part, has_parts, quoted, class_at, range_end, part_at, parts_first, is_complement, bracket};
-ghost use Rattle.glob_match.specs.ByteSet.{has};
-ghost use Rattle.glob_match.specs.Class.{is_alpha};
-ghost use Rattle.glob_match.specs.Item.{OneOf, members};
+ghost use Rattle.glob_match.specs.Bracket.{quoted, range_end, part_at, parts_first, is_complement, bracket};
+ghost use Rattle.byte_class.specs.ByteSet.{has, members};
+ghost use Rattle.byte_class.specs.Part.{has_part, has_parts};
+ghost use Rattle.glob_match.specs.Item.{OneOf};
 
-use crate::byte_set::ByteSet;
-use crate::class::Class;
+use byte_class::class::read_class;
+use byte_class::{ByteSet, Class};
 
 /// The byte that stands first, which a backslash may quote, and how many bytes it takes.
 #[tactic(auto, unfolding(crate::specs::Bracket::quoted))]
@@ -21,36 +20,6 @@ pub(crate) fn read_byte(text: &[u8]) -> (u8, usize)
         (text[1], 2)
     } else {
         (text[0], 1)
-    }
-}
-
-/// How many letters a text begins with.
-fn letters(text: &[u8]) -> usize
-    ensures value { result ≡ prefix_len is_alpha text.now }
-    ensures within { result ≤ length text.now }
-{
-    let mut n = 0;
-    while n < text.len() && text[n].is_ascii_alphabetic() {
-        n += 1;
-    }
-    n
-}
-
-/// The length of the name of the class that stands first, if one does.
-#[tactic(auto, unfolding(crate::specs::Bracket::class_at))]
-fn read_class(text: &[u8]) -> Option<usize>
-    ensures value { result ≡ class_at text.now }
-    ensures within { IfSome result (λ letters. letters + 4 ≤ length text.now) }
-{
-    if !text.starts_with(b"[:") {
-        return None;
-    }
-    let inside = &text[2..];
-    let len = letters(inside);
-    if inside[len..].starts_with(b":]") {
-        Some(len)
-    } else {
-        None
     }
 }
 
@@ -72,7 +41,7 @@ fn read_range_end(text: &[u8]) -> Option<(u8, usize)>
 }
 
 /// Inserts the part of a bracket expression that stands first, and answers how many bytes it takes.
-#[tactic(auto, unfolding(crate::specs::Bracket::part_or, crate::specs::Bracket::range_at, crate::specs::Bracket::has_part, crate::specs::Class::name_has))]
+#[tactic(auto, unfolding(crate::specs::Bracket::part_or, crate::specs::Bracket::range_at, byte_class::specs::Part::has_part, byte_class::specs::Class::name_has))]
 fn insert_part(set: &mut ByteSet, text: &[u8]) -> usize
     requires { 0 < length text.now }
     ensures inserted { (byte : ℕ) → byte < 256 → has set.new byte ≡ (has set.old byte || has_part (part_at text.now).0 byte) }

@@ -6,7 +6,7 @@ ghost use Rattle.glob_match.specs.Pattern.{wanted, items_of, plain_of, InGlob};
 use crate::items::Items;
 use crate::matching::matches_items;
 use crate::reading::{is_plain, read_items, read_plain};
-use crate::steps::Steps;
+use byte_class::Steps;
 use memchr::memmem::Finder;
 use std::alloc::{AllocError, Global};
 use std::marker::Model;

@@ -1,10 +1,9 @@
 //! The items of a pattern, and what each takes.
 ghost use Rattle.std.specs.Prelude.{◌≡◌, ◌≢◌, ℕ, ◌+◌, ◌<◌, ◌==◌, ◌↔◌, List, [], ◌∷◌, ◌++◌, length, map, slice_get, IsTrue, IfSome, OnOk};
-ghost use Rattle.glob_match.specs.Item.{Item, Star, OneOf, members, Takes};
-ghost use Rattle.glob_match.specs.ByteSet.{has};
+ghost use Rattle.glob_match.specs.Item.{Item, Star, OneOf, Takes};
+ghost use Rattle.byte_class.specs.ByteSet.{has, members};
 
-use crate::byte_set::ByteSet;
-use crate::steps::Steps;
+use byte_class::{ByteSet, Steps};
 use std::alloc::{AllocError, Global};
 use std::marker::Model;
 use std::sync::ledger::Ledger;

@@ -3,7 +3,7 @@ ghost use Rattle.std.specs.Prelude.{◌≡◌, ℕ, ◌+◌, ◌-◌, ◌*◌, �
 ghost use Rattle.glob_match.specs.Language.{Matches};
 
 use crate::items::Items;
-use crate::steps::Steps;
+use byte_class::Steps;
 use std::sync::ledger::Ledger;
 
 /// Whether the whole text is one that the items match. Most texts that are not end otherwise, and

@@ -4,8 +4,8 @@ ghost use Rattle.glob_match.specs.Item.{Item, Star, OneOf};
 ghost use Rattle.glob_match.specs.Pattern.{literal, item_at, items, is_special, is_plain};
 
 use crate::bracket::{read_bracket, read_byte};
-use crate::byte_set::ByteSet;
 use crate::items::Items;
+use byte_class::ByteSet;
 use std::alloc::{AllocError, Global};
 
 /// Whether the byte has a meaning in patterns.

@@ -1,8 +1,0 @@
-use Rattle.std.proofs.Common.{ap, ◌/◌, ◌%◌, ◌==◌, slice_index}
-use Rattle.std.proofs.lemmas.Nat.Bits.{shr_and_one}
-use Rattle.glob_match.specs.ByteSet.{has}
-use Rattle.glob_match.proofs.byte_set.ByteSet.contains.Goals as goal
-
-pub returns : goal.returns
-unfolding has
-returns c = ap (λ bit. bit == 1) (shr_and_one (slice_index c.args.self.now.words (c.args.byte / 64)) (c.args.byte % 64))

@@ -1,0 +1,10 @@
+pub mod Complete
+pub mod Found
+pub mod Fragments
+pub mod Members
+pub mod Reading
+pub mod Relations
+pub mod Rows
+pub mod Sets
+pub mod Sound
+pub mod Whole

@@ -1,0 +1,48 @@
+-- Regular expressions, and what they span in a text.
+use Rattle.std.specs.Prelude.{◌≡◌, ℕ, zero, suc, ◌+◌, ◌*◌, ◌<◌, ◌≤◌, ◌⊎◌, max, List, length, slice_index, Contains, Option, Some, None}
+
+-- one byte out of some, an anchor, nothing, one after the other, one or the other, or one again and again: so many
+-- times, and then any number of times more or, where a second number stands, at most so many times more
+pub data Expression : Type 0 where
+  OneOf : List ℕ → Expression
+  Start : Expression
+  End : Expression
+  Empty : Expression
+  Then : Expression → Expression → Expression
+  Or : Expression → Expression → Expression
+  Repeat : Expression → ℕ → Option ℕ → Expression
+
+-- a repetition may be taken this many times
+abbrev pub IsAllowed : ℕ → Option ℕ → ℕ → Type 0
+IsAllowed least None count = least ≤ count
+IsAllowed least (Some more) count = (least ≤ count) × (count ≤ least + more)
+
+-- so many steps that follow one another lead from one place to another
+abbrev pub Times : (ℕ → ℕ → Type 0) → ℕ → ℕ → ℕ → Type 0
+Times Step zero i j = i ≡ j
+Times Step (suc count) i j = (k : ℕ) × Step i k × Times Step count k j
+
+-- the expression spans the text from the place i to the place j
+abbrev pub Spans : Expression → List ℕ → ℕ → ℕ → Type 0
+Spans (OneOf bytes) text i j = (i < length text) × (j ≡ i + 1) × Contains bytes (slice_index text i)
+Spans Start text i j = (i ≡ 0) × (j ≡ 0)
+Spans End text i j = (i ≡ length text) × (j ≡ length text)
+Spans Empty text i j = i ≡ j
+Spans (Then first second) text i j = (k : ℕ) × Spans first text i k × Spans second text k j
+Spans (Or first second) text i j = Spans first text i j ⊎ Spans second text i j
+Spans (Repeat inner least more) text i j = (count : ℕ) × IsAllowed least more count × Times (Spans inner text) count i j
+
+-- the expression spans some part of the text
+abbrev pub Found : Expression → List ℕ → Type 0
+Found expression text = (i : ℕ) × (j : ℕ) × (i ≤ j) × (j ≤ length text) × Spans expression text i j
+
+-- how much an expression asks for, with its repetitions written out
+unfoldable pub size : Expression → ℕ
+size (OneOf bytes) = 1
+size Start = 1
+size End = 1
+size Empty = 0
+size (Then first second) = size first + size second
+size (Or first second) = size first + size second + 1
+size (Repeat inner least None) = max least 1 * (size inner + 1) + 1
+size (Repeat inner least (Some more)) = (least + more) * (size inner + 1)

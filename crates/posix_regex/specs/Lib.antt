@@ -1,0 +1,10 @@
+pub mod Bracket
+pub mod Expression
+pub mod Fragment
+pub mod Interval
+pub mod Lex
+pub mod Moves
+pub mod Pattern
+pub mod Program
+pub mod Reader
+pub mod Token

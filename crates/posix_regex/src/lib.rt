@@ -1,0 +1,19 @@
+//! Regular expressions over bytes, after POSIX.
+#![tactic(auto)]
+
+mod bracket;
+mod fault;
+mod fragment;
+mod interval;
+pub mod laws;
+mod lex;
+mod pattern;
+mod reader;
+mod regex;
+mod states;
+#[cfg(test)]
+mod tests;
+mod token;
+
+pub use fault::{RegexCause, RegexFault};
+pub use regex::Regex;

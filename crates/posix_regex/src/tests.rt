@@ -1,0 +1,182 @@
+//! Patterns that are read or refused, each worked by hand.
+use crate::fault::{RegexCause, RegexFault};
+use crate::regex::Regex;
+use std::alloc::Global;
+use std::test::Fail;
+
+// What reading a pattern answers: how many items, or the cause's number and the place.
+fn answer(alloc: Global, pattern: &[u8], extended: bool) -> (u64, u64) {
+    match Regex::read(alloc, pattern, extended, false) {
+        Ok(regex) => (0, regex.item_count() as u64),
+        Err(RegexFault { place, cause }) => (number(cause), place),
+    }
+}
+
+fn number(cause: RegexCause) -> u64 {
+    match cause {
+        RegexCause::BadBracket => 1,
+        RegexCause::BadClass => 2,
+        RegexCause::BadRepeat => 3,
+        RegexCause::BadGroup => 4,
+        RegexCause::Trailing => 5,
+        RegexCause::Unsupported => 6,
+        RegexCause::TooDeep => 7,
+        RegexCause::TooBig => 8,
+        RegexCause::OutOfMemory => 9,
+    }
+}
+
+// The first row of which the answer is another. A row is the number of the cause, or 0, the place of the fault, or the
+// count of items, and the pattern.
+fn first_wrong(alloc: Global, rows: &'static str, extended: bool) -> Option<&'static str> {
+    for row in rows.lines() {
+        let Some((cause, rest)) = row.split_once(' ') else {
+            return Some(row);
+        };
+        let Some((place, pattern)) = rest.split_once(' ') else {
+            return Some(row);
+        };
+        let (Ok(cause), Ok(place)) = (cause.parse::<u64>(), place.parse::<u64>()) else {
+            return Some(row);
+        };
+        if answer(alloc, pattern.as_bytes(), extended) != (cause, place) {
+            return Some(row);
+        }
+    }
+    None
+}
+
+// Extended syntax.
+const EXTENDED: &str = r"0 1 a
+0 3 abc
+0 1 ]
+0 1 }
+0 1 .
+0 2 ^$
+0 3 a*
+0 2 a+
+0 2 a?
+0 4 a{2}b{2}
+0 4 a{1,2}b
+0 3 a{2,}
+0 0 a{0}
+0 5 a?b*
+0 4 a|b
+0 2 |
+0 4 (|a)b
+0 1 (a)
+0 3 ^*
+0 1 [a-z]
+0 1 []a]
+0 1 [^]a]
+0 1 [a-]
+0 1 [[:alpha:]-]
+0 1 [[:alpha]
+0 1 [\]
+0 1 \.
+0 1 \{
+1 0 [a
+1 1 a[z-a]
+1 0 []
+1 0 [[:alpha:]
+2 1 [[:word:]]
+2 2 [a[:ALPHA:]
+3 0 *
+3 1 (*a)
+3 2 a|+
+3 1 a{2,1}
+3 1 a{256}
+3 1 a{1000}
+3 1 a{,2}
+3 1 a{1
+3 0 {1}
+4 0 (a
+4 1 a)
+4 0 (a(b)
+4 3 (a)(
+5 1 a\
+6 0 \1
+6 1 a\w
+6 1 [[=a=]]
+6 1 [[.a.]]
+6 3 [+-[.z.]]
+8 0 a{255}{17}
+0 0 (a{255}{255}{255}){0}";
+
+#[test]
+fn extended_patterns_are_read_or_refused(rt: HostRuntime) -> Result<(), Fail> {
+    let wrong = first_wrong(rt.alloc(), EXTENDED, true);
+    assert!(rt; wrong.is_none(), "{wrong:?}");
+    Ok(())
+}
+
+// Basic syntax.
+const BASIC: &str = r"0 1 a
+0 1 *
+0 3 **
+0 2 ^*
+0 4 ^**
+0 2 ^a
+0 2 a^
+0 2 a$
+0 2 $a
+0 3 a+?
+0 3 a|b
+0 4 ab*
+0 3 (a)
+0 1 \(a\)
+0 3 \(a\)*
+0 2 \(*a\)
+0 3 \(^*a\)
+0 2 \(a$\)
+0 2 a\{2\}
+0 3 {2}
+0 1 \.
+0 1 \}
+3 1 a\{2\
+3 1 a\{2}
+3 0 \{1\}
+4 0 \(a
+4 1 a\)
+5 0 \
+6 5 \(a\)\1
+6 1 a\|b
+6 1 a\+
+6 1 a\?";
+
+#[test]
+fn basic_patterns_are_read_or_refused(rt: HostRuntime) -> Result<(), Fail> {
+    let wrong = first_wrong(rt.alloc(), BASIC, false);
+    assert!(rt; wrong.is_none(), "{wrong:?}");
+    Ok(())
+}
+
+// The 65th group that is open at once is one too many.
+#[test]
+fn groups_are_at_most_64_deep(rt: HostRuntime) -> Result<(), Fail> {
+    let alloc = rt.alloc();
+    let mut pattern = Vec::new(alloc);
+    for _ in 0..64 {
+        pattern.push(b'(')?;
+    }
+    assert!(rt; answer(alloc, &pattern, true) == (4, 63));
+    pattern.push(b'(')?;
+    assert!(rt; answer(alloc, &pattern, true) == (7, 64));
+    Ok(())
+}
+
+// A size of 4,096 is allowed, and one more is not; every other fault comes first.
+#[test]
+fn sizes_are_at_most_4096(rt: HostRuntime) -> Result<(), Fail> {
+    let alloc = rt.alloc();
+    let mut pattern = Vec::new(alloc);
+    for _ in 0..4096 {
+        pattern.push(b'a')?;
+    }
+    assert!(rt; answer(alloc, &pattern, true) == (0, 4096));
+    pattern.push(b'a')?;
+    assert!(rt; answer(alloc, &pattern, true) == (8, 0));
+    pattern.push(b')')?;
+    assert!(rt; answer(alloc, &pattern, true) == (4, 4097));
+    Ok(())
+}
