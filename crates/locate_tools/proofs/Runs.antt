@@ -17,7 +17,7 @@ use Rattle.locate_tools.specs.declared.answer.Cause.{Cause}
 use Rattle.locate_tools.specs.declared.answer.Cause.TheVariants as causes
 use Rattle.locate_tools.specs.Standing.{Standing, Goes, IsComplete}
 use Rattle.locate_tools.specs.Tried.{Known, known, Tried, TriedCount, TriedSearch, Moves, NoneFailed}
-use Rattle.locate_tools.specs.Located.{World, Locates, LocatesIn, asks_gate, lines_of, number_of, asks_nothing, databases_of, query_of, found, endings, ending_at, passing_at, cause_of}
+use Rattle.locate_tools.specs.Located.{World, Locates, LocatesIn, may_ask_gate, lines_of, number_of, asks_nothing, databases_of, query_of, found, endings, ending_at, passing_at, cause_of}
 use Rattle.locate_tools.specs.Ran.{LocateRan, LocateRun, Concludes, is_write_fault, is_read_fault, is_gate_fault, numbers, cause_after}
 use Rattle.locate_tools.specs.Counted.{CountsAll, statistics_at}
 use Rattle.locate_tools.proofs.CountingAll.{goes_gives}
@@ -127,7 +127,7 @@ finds_by true query world tests names os s s' below goes complete none fits =
 finds_by false query world tests names os s s' below goes complete none fits = goes_finds query world tests names os s s' goes complete none (below refl) fits
 
 -- exactly what the world says was printed and answered
-exact_of : (asked : LocateAsked) (world : World) (tests : Option Tests) (s s' : Standing) (os : List Outcome) (cause : Cause) → s.matched ≡ 0 → asked.statistics ≡ false → (IsTrue (asks_gate asked world.files (databases_of asked)) → tests ≡ Some world.tests)
+exact_of : (asked : LocateAsked) (world : World) (tests : Option Tests) (s s' : Standing) (os : List Outcome) (cause : Cause) → s.matched ≡ 0 → asked.statistics ≡ false → (IsTrue (may_ask_gate asked world.files (databases_of asked)) → tests ≡ Some world.tests)
     → LocateRan asked (known (Some world.files) tests) s s' os cause → NoneFailed s s' → Locates asked world s.taken s'.taken os cause
 exact_of asked world tests s s' os cause zero stat fits r none =
     let q = query_of asked in

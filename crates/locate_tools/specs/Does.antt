@@ -20,7 +20,7 @@ use Rattle.locate_tools.specs.Told.{told}
 use Rattle.locate_tools.specs.Tried.{Known, known}
 use Rattle.locate_tools.specs.Updates.{UpdatedbRun, around_in}
 
--- ---- the parts of a snapshot that `locate` sees, before it has found a path
+-- ---- the parts of a snapshot that `locate` sees, in which no path is counted
 
 abbrev pub known_in : Snapshot → Known
 known_in o = known o.files o.tests
@@ -55,8 +55,8 @@ Works (Some (Convert asked)) now before ending after = Refuses ending
 Works (Some (Exercise asked)) now before ending after = Refuses ending
 
 -- What a run does: the work that its words ask for. Its status is that of the tool and the cause; standard error takes the
--- messages, or, where it failed, a first part of them; what was written to standard output has gone out, unless it failed;
--- no file that is read changes.
+-- messages, or, where it failed, a first part of them; what was written to standard output has gone out, unless it failed or
+-- something was held back before; no file that is read changes.
 pub record Does (call : CallMade) (before : Snapshot) (ending : Ending) (after : Snapshot) : Type 0 where
   pub works : Works (request_of call) call.moment before ending after
   pub status : ending.status ≡ status_of (tool_called call) ending.cause

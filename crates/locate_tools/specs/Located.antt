@@ -52,9 +52,9 @@ abbrev pub gated_in : Option (List ℕ) → Bool
 gated_in None = false
 gated_in (Some file) = is_gated file
 
--- the gate is asked: existence is asked for, or one of the databases is gated
-abbrev pub asks_gate : LocateAsked → Files → List (List ℕ) → Bool
-asks_gate asked files names = asked.existing || list_any (λ name. gated_in (get files name)) names
+-- the gate may be asked: existence is asked for, or one of the databases is gated
+abbrev pub may_ask_gate : LocateAsked → Files → List (List ℕ) → Bool
+may_ask_gate asked files names = asked.existing || list_any (λ name. gated_in (get files name)) names
 
 -- the paths of a database that are wanted, visible and there
 abbrev pub passing_in : Query → Tests → Option (List ℕ) → List PathAt

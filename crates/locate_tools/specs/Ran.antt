@@ -10,7 +10,7 @@ use Rattle.locate_engine.specs.declared.outcome.Outcome.{Outcome}
 use Rattle.locate_engine.specs.declared.outcome.Outcome.TheVariants as outcomes
 use Rattle.locate_tools.specs.Standing.{Standing, Goes, IsComplete}
 use Rattle.locate_tools.specs.Counted.{CountsAll}
-use Rattle.locate_tools.specs.Located.{World, Locates, asks_gate, query_of, databases_of, cause_of}
+use Rattle.locate_tools.specs.Located.{World, Locates, may_ask_gate, query_of, databases_of, cause_of}
 use Rattle.locate_tools.specs.Tried.{Known, NoneFailed, Tried}
 use Rattle.locate_tools.specs.declared.answer.Cause.{Cause}
 use Rattle.locate_tools.specs.declared.answer.Cause.TheVariants as causes
@@ -38,6 +38,7 @@ pub record Concludes (asked : LocateAsked) (outcomes : List Outcome) (matched : 
   pub writes : list_any is_write_fault outcomes ≡ false → (cause ≡ causes.WriteFault → ⊥) → (cause ≡ cause_after asked matched) × Appends taken taken' (number_text asked matched)
   pub breaks : list_any is_write_fault outcomes ≡ false → cause ≡ causes.WriteFault → IsTrue (numbers asked) × (Rose failed failed' × AppendsPart taken taken' (number_text asked matched))
   pub passed_on : (cause ≡ causes.WriteFault → ⊥) → held ≡ 0 → held' ≡ 0
+  pub number_passed_on : (cause ≡ causes.WriteFault → ⊥) → IsTrue (numbers asked) → held' ≡ 0
 
 -- A run of `locate`: its databases were tried one after another, each from where the one before left the run, and then it
 -- ended.
@@ -59,7 +60,7 @@ abbrev pub is_gate_fault : Outcome → Bool
 is_gate_fault outcomes.GateFault = true
 is_gate_fault outcome = false
 
--- A run of `locate`, and when its answers come. Where memory ran out no database was tried. Where no call failed, exactly
+-- A run of `locate`, and when its answers come. Where memory ran out there are no outcomes. Where no call failed, exactly
 -- what the files and the gate's tests say was printed and answered, whatever the tests are where the gate is not asked; or
 -- exactly the statistics of the files were written. No more outcomes tell of a failed read, or of a failed gate, than such
 -- calls failed, up to the last count that can be told. A failed write is the cause where it is an outcome, and else only
@@ -67,7 +68,7 @@ is_gate_fault outcome = false
 pub record LocateRun (asked : LocateAsked) (known : Known) (s s' : Standing) (outcomes : List Outcome) (cause : Cause) : Type 0 where
   pub no_memory : cause ≡ causes.OutOfMemory → outcomes ≡ []
   pub ran : (cause ≡ causes.OutOfMemory → ⊥) → LocateRan asked known s s' outcomes cause
-  pub exact : (cause ≡ causes.OutOfMemory → ⊥) → asked.statistics ≡ false → (world : World) → known.files ≡ Some world.files → (IsTrue (asks_gate asked world.files (databases_of asked)) → known.tests ≡ Some world.tests) → NoneFailed s s'
+  pub exact : (cause ≡ causes.OutOfMemory → ⊥) → asked.statistics ≡ false → (world : World) → known.files ≡ Some world.files → (IsTrue (may_ask_gate asked world.files (databases_of asked)) → known.tests ≡ Some world.tests) → NoneFailed s s'
       → Locates asked world s.taken s'.taken outcomes cause
   pub counted : (cause ≡ causes.OutOfMemory → ⊥) → asked.statistics ≡ true → (files : Files) → known.files ≡ Some files → NoneFailed s s'
       → CountsAll asked files s.taken s'.taken outcomes cause
