@@ -1,6 +1,7 @@
 pub mod Complete
 pub mod Found
 pub mod Fragments
+pub mod Inserted
 pub mod Marks
 pub mod Members
 pub mod Reading

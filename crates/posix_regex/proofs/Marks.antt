@@ -54,10 +54,10 @@ module _ (order : List ℕ) (count s : ℕ) (marks : List Bool) (h : AreMarked o
   took = rw (add-one count) (take-suc-set order count s room)
 
   same_mark : (t : ℕ) → t ≢ s → get_or (set marks s true) t false ≡ get_or marks t false
-  same_mark t ne = get_or-set_other
+  same_mark t ne = get_or-set_other marks s t true false ne
 
   own_mark : get_or (set marks s true) s false ≡ true
-  own_mark = get_or-set_same
+  own_mark = get_or-set_same marks s true false within
 
   pub are_marked-more : AreMarked (set order count s) (count + 1) (set marks s true)
   are_marked-more = record {
@@ -81,3 +81,24 @@ module _ (order : List ℕ) (count s : ℕ) (marks : List Bool) (h : AreMarked o
 
 pub shown-count : (order : List ℕ) (count : ℕ) (marks : List Bool) → AreMarked order count marks → length (take count order) ≡ count
 shown-count order count marks h = length-take-le count order (omega (arith, h.same_length, h.counted, marked-few marks))
+
+marked-cleared : (marks : List Bool) → ((k : ℕ) → get_or marks k false ≡ false) → marked marks ≡ 0
+marked-cleared [] h = refl
+marked-cleared (true ∷ marks) h = absurd (false≢true (sym (h 0)))
+marked-cleared (false ∷ marks) h = marked-cleared marks (λ k. h (suc k))
+
+pub are_marked-cleared : (order : List ℕ) (marks : List Bool) → ((k : ℕ) → get_or marks k false ≡ false) → length order ≡ length marks → AreMarked order 0 marks
+are_marked-cleared order marks h same = record {
+  same_length = same;
+  counted = sym (marked-cleared marks h);
+  listed = λ s within is. absurd (false≢true (sym (h s) ∙ is));
+  below = λ s has. absurd (omega (arith, has.1));
+}
+
+same_default : (l : List ℕ) (k d e : ℕ) → k < length l → get_or l k d ≡ get_or l k e
+same_default [] k d e h = absurd (omega arith)
+same_default (x ∷ l) zero d e h = refl
+same_default (x ∷ l) (suc k) d e h = same_default l k d e (omega arith)
+
+pub below-at : (order : List ℕ) (count place x : ℕ) (marks : List Bool) → AreMarked order count marks → place < length (take count order) → x ≡ get_or (take count order) place 0 → x < length marks
+below-at order count place x marks h within is = (h.below x (place, within, same_default (take count order) place x 0 within ∙ sym is)).0

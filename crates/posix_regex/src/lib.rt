@@ -10,6 +10,7 @@ mod lex;
 mod pattern;
 mod reader;
 mod regex;
+mod search;
 mod state_set;
 mod states;
 #[cfg(test)]

@@ -1,5 +1,5 @@
 //! Sets of states, with their members in the order in which they came.
-ghost use Rattle.std.specs.Prelude.{◌≡◌, ◌⊎◌, ◌≤◌, ◌<◌, ◌++◌, ◌∷◌, [], ℕ, length, slice_index, replicate, false, Contains, IfOk};
+ghost use Rattle.std.specs.Prelude.{◌≡◌, ◌⊎◌, ◌≤◌, ◌<◌, ◌++◌, ◌∷◌, [], ℕ, length, slice_index, slice_index_or, false, Contains, IfOk};
 
 use std::alloc::{AllocError, Global};
 use std::marker::Model;
@@ -24,10 +24,13 @@ impl Model for StateSet {
 }
 
 /// Takes every mark away.
-fn unmark(marks: &mut [bool])
-    ensures { marks.new ≡ replicate (length marks.old) false }
+fn unmark(marks: &mut Vec<bool>)
+    ensures len { length marks.new.items ≡ length marks.old.items }
+    ensures none { (k : ℕ) → slice_index_or marks.new.items k false ≡ false }
 {
-    marks.fill(false);
+    for k in 0..marks.len() {
+        marks[k] = false;
+    }
 }
 
 impl StateSet {
@@ -75,7 +78,7 @@ impl StateSet {
     /// The set with a state, if that is below the number.
     pub(crate) fn insert(&mut self, state: usize)
         ensures width { self.new.width ≡ self.old.width }
-        ensures order { (self.new.order ≡ self.old.order) ⊎ (self.new.order ≡ self.old.order ++ state ∷ []) }
+        ensures order { (self.new.order ≡ self.old.order) ⊎ ((state < self.old.width) × (self.new.order ≡ self.old.order ++ state ∷ [])) }
         ensures has { state < self.old.width → Contains self.new.order state }
     {
         if state >= self.marks.len() {
