@@ -7,6 +7,7 @@ pub mod Members
 pub mod Reading
 pub mod Relations
 pub mod Rows
+pub mod Searching
 pub mod Sets
 pub mod Sound
 pub mod Whole

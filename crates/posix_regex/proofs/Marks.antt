@@ -75,6 +75,7 @@ module _ (order : List ℕ) (count s : ℕ) (marks : List Bool) (h : AreMarked o
     still : (t : ℕ) → get_or marks t false ≡ true → (t ≡ s) ⊎ (t ≢ s) → get_or (set marks s true) t false ≡ true
     still t is (inl e) = subst (λ x. get_or (set marks s true) x false ≡ true) (sym e) own_mark
     still t is (inr ne) = same_mark t ne ∙ is
+
     only : (t : ℕ) → Contains (s ∷ []) t → t ≡ s
     only t (zero, _, e) = sym e
     only t (suc k, lt, e) = absurd (omega arith)

@@ -17,5 +17,6 @@ mod states;
 mod tests;
 mod token;
 
+pub use byte_class::Steps;
 pub use fault::{RegexCause, RegexFault};
 pub use regex::Regex;

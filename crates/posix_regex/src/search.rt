@@ -1,11 +1,12 @@
 //! The search of a text, by sets of states.
-ghost use Rattle.std.specs.Prelude.{◌≡◌, ◌⊎◌, ◌<◌, ◌≤◌, ◌+◌, ℕ, [], length, slice_get, slice_index, Contains, IsTrue, IsFalse};
+ghost use Rattle.std.specs.Prelude.{◌≡◌, ◌⊎◌, ◌<◌, ◌≤◌, ◌+◌, ℕ, [], length, slice_get, slice_index, Contains, IsTrue, IsFalse, ◌↔◌, ◌*◌};
 ghost use Rattle.posix_regex.specs.Lead.{LeadsTo};
-ghost use Rattle.posix_regex.specs.Moves.{Leads, Reached};
+ghost use Rattle.posix_regex.specs.Moves.{Leads, Reached, ReachesEnd};
 
 use crate::state_set::StateSet;
 use crate::states::{Lead, States};
 use byte_class::Steps;
+use std::mem;
 use std::sync::ledger::Ledger;
 
 /// Inserts what a state leads to into the set of this place and into that of the next.
@@ -69,6 +70,41 @@ fn spread<L: Ledger>(
         let lead = states.lead(state, text, at, steps);
         insert(lead, now, next);
         k += 1;
+    }
+    false
+}
+
+/// Whether the states come to their end somewhere in the text.
+pub(crate) fn search<L: Ledger>(
+    states: &States,
+    text: &[u8],
+    now: &mut StateSet,
+    next: &mut StateSet,
+    steps: &mut Steps<L>,
+) -> bool
+    requires now_width { now.old.width ≡ length states.now + 1 }
+    requires next_width { next.old.width ≡ length states.now + 1 }
+    ensures now_width { now.new.width ≡ length states.now + 1 }
+    ensures next_width { next.new.width ≡ length states.now + 1 }
+    ensures value { IsTrue result ↔ ReachesEnd states.now text.now }
+    ensures rising { steps.old ≤ steps.new }
+    ensures bound { steps.new ≤ steps.old + (length states.now + 1) * (length text.now + 1) }
+{
+    now.clear();
+    next.clear();
+    now.insert(0);
+    let mut at = 0;
+    while at < text.len() {
+        if spread(states, text, at, now, next, steps) {
+            return true;
+        }
+        mem::swap(now, next);
+        next.clear();
+        now.insert(0);
+        at += 1;
+    }
+    if spread(states, text, at, now, next, steps) {
+        return true;
     }
     false
 }

@@ -41,21 +41,21 @@ loop-k-preserved g c =
       next_sound = λ s h. ⊎_elim (λ h0. inv.next_sound s h0) (λ to. (suc reached.0, (s0, c.args.at, reached.1, (c.lead-lead.ensures.value s (c.args.at + 1) (omega (arith, to.0, wide))).1 (to.1 c.args.at)))) (c.insert.ensures.next_only s h);
       closed = λ m u j lt lead le. ⊎_elim
           (λ (before : m < c.loop-k.k).
-            ⊎_elim
-            (λ a. inl (a.0, c.insert.ensures.now_kept u a.1))
-            (λ a. inr (a.0, c.insert.ensures.next_kept u a.1))
-            (inv.closed m u j before (subst (λ x. Leads text (slice_get items x) x c.args.at u j) (stays m (omega (arith, before, within))) lead) le))
+          ⊎_elim
+          (λ a. inl (a.0, c.insert.ensures.now_kept u a.1))
+          (λ a. inr (a.0, c.insert.ensures.next_kept u a.1))
+          (inv.closed m u j before (subst (λ x. Leads text (slice_get items x) x c.args.at u j) (stays m (omega (arith, before, within))) lead) le))
           (λ (last : c.loop-k.k ≤ m).
-            let same : m ≡ c.loop-k.k = omega (arith, last, lt) in
-            let e : get_or new m 0 ≡ s0 = ap (λ x. get_or new x 0) same ∙ stays c.loop-k.k within ∙ sym here in
-            c.insert.ensures.has c.args.at u j ((c.lead-lead.ensures.value u j le).0 (subst (λ x. Leads text (slice_get items x) x c.args.at u j) e lead)) (omega (arith, le, wide)))
+          let same : m ≡ c.loop-k.k = omega (arith, last, lt) in
+          let e : get_or new m 0 ≡ s0 = ap (λ x. get_or new x 0) same ∙ stays c.loop-k.k within ∙ sym here in
+          c.insert.ensures.has c.args.at u j ((c.lead-lead.ensures.value u j le).0 (subst (λ x. Leads text (slice_get items x) x c.args.at u j) e lead)) (omega (arith, le, wide)))
           (cases_lt m c.loop-k.k);
       unfinished = λ m lt e. ⊎_elim
           (λ (before : m < c.loop-k.k). inv.unfinished m before (sym (stays m (omega (arith, before, within))) ∙ e))
           (λ (last : c.loop-k.k ≤ m).
-            let same : m ≡ c.loop-k.k = omega (arith, last, lt) in
-            let f : get_or new m 0 ≡ s0 = ap (λ x. get_or new x 0) same ∙ stays c.loop-k.k within ∙ sym here in
-            c.if-state-len.false (sym f ∙ e ∙ sym c.len-in-loop-k.ensures.value))
+          let same : m ≡ c.loop-k.k = omega (arith, last, lt) in
+          let f : get_or new m 0 ≡ s0 = ap (λ x. get_or new x 0) same ∙ stays c.loop-k.k within ∙ sym here in
+          c.if-state-len.false (sym f ∙ e ∙ sym c.len-in-loop-k.ensures.value))
           (cases_lt m c.loop-k.k);
       rising = omega (arith, inv.rising, c.lead-lead.ensures.step);
       bound = omega (arith, inv.bound, c.lead-lead.ensures.step);
