@@ -195,12 +195,17 @@ fn counted<L: Ledger>(blank: Blank, regex: &mut Regex, text: &[u8]) -> bool
     regex.matches(text, &mut steps)
 }
 
+// What a caller writes that counts no steps.
+fn is_match(regex: &mut Regex, text: &[u8]) -> bool {
+    counted::<Brand>(Blank::new(1), regex, text)
+}
+
 // Whether the pattern finds the text, or not where it is refused.
 fn finds(alloc: Global, pattern: &[u8], text: &[u8], extended: bool, fold: bool) -> bool {
     match Regex::read(alloc, pattern, extended, fold) {
         Ok(regex) => {
             let mut regex = regex;
-            counted::<Brand>(Blank::new(1), &mut regex, text)
+            is_match(&mut regex, text)
         }
         Err(_) => false,
     }
