@@ -1,5 +1,5 @@
 -- What a set of states has.
-use Rattle.std.specs.Prelude.{◌≡◌, ℕ, suc, zero, ◌+◌, ◌<◌, Bool, true, false, List, [], ◌∷◌, length, take, slice_index_or, Contains}
+use Rattle.std.specs.Prelude.{◌≡◌, ℕ, suc, ◌<◌, Bool, true, false, List, [], ◌∷◌, length, take, slice_index_or, Contains}
 
 -- the states below a number that were inserted, in their order
 pub record Members : Type 0 where

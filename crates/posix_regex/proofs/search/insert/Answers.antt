@@ -1,4 +1,4 @@
-use Rattle.std.proofs.Common.{◌≡◌, ◌<◌, Contains, inl, inr, ⊎_elim, refl, sym, subst, arith}
+use Rattle.std.proofs.Common.{◌≡◌, Contains, inl, inr, ⊎_elim, refl, sym, subst, arith}
 use Rattle.posix_regex.proofs.Inserted.{only_more, kept_more}
 use Rattle.posix_regex.proofs.search.insert.Goals as goal
 

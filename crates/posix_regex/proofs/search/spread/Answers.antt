@@ -1,6 +1,5 @@
-use Rattle.std.proofs.Common.{◌≡◌, ◌⊎◌, ℕ, ◌+◌, ◌<◌, ◌≤◌, length, slice_get, slice_index, get_or, Contains, refl, sym, ap, ◌∙◌, subst, inl, inr, suc, ⊎_elim, arith}
+use Rattle.std.proofs.Common.{◌≡◌, ℕ, ◌+◌, ◌<◌, ◌≤◌, length, slice_get, get_or, refl, sym, ap, ◌∙◌, subst, inl, inr, suc, ⊎_elim, arith}
 use Rattle.std.proofs.lemmas.Bool.{cases_lt}
-use Rattle.posix_regex.specs.Lead.{LeadsTo}
 use Rattle.posix_regex.specs.Moves.{Leads, Reached}
 use Rattle.posix_regex.proofs.Inserted.{contains_at, place_of}
 use Rattle.posix_regex.proofs.search.spread.Goals as goal

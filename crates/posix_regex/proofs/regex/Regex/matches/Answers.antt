@@ -1,5 +1,4 @@
 use Rattle.std.proofs.Common.{◌≡◌, sym, subst, ◌∙◌}
-use Rattle.posix_regex.specs.Expression.{Found}
 use Rattle.posix_regex.specs.Moves.{ReachesEnd}
 use Rattle.posix_regex.specs.Program.{items_of}
 use Rattle.posix_regex.proofs.Found.{end_found, found_end}
