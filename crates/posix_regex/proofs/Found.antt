@@ -1,6 +1,6 @@
 -- Items come to their end where the expression spans some part of the text.
-use Rattle.std.proofs.Common.{◌≡◌, ◌⊎◌, ◌↔◌, ℕ, zero, suc, ◌+◌, ◌<◌, ◌≤◌, List, [], length, slice_get, Option, Some, None, refl, sym, ap, ◌∙◌, subst, inl, inr, ⊎_elim, arith}
-use Rattle.std.proofs.lemmas.Option.{slice_get_past, slice_get_within}
+use Rattle.std.proofs.Common.{◌≡◌, ℕ, zero, suc, ◌+◌, ◌<◌, ◌≤◌, List, length, slice_get, None, refl, sym, subst, ⊎_elim, arith}
+use Rattle.std.proofs.lemmas.Option.{slice_get_past}
 use Rattle.posix_regex.specs.Expression.{Expression, OneOf, Start, End, Empty, Then, Or, Repeat, Times, Spans, Found}
 use Rattle.posix_regex.specs.Program.{Item, items_of}
 use Rattle.posix_regex.specs.Moves.{Leads, Comes, Reached, ReachesEnd}

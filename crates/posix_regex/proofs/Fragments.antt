@@ -1,9 +1,9 @@
 -- What the parts of an expression are put together to.
-use Rattle.std.proofs.Common.{◌≡◌, ℕ, zero, suc, ◌+◌, ◌-◌, ◌*◌, ◌^◌, ◌≤◌, ◌<◌, min, max, List, [], ◌∷◌, ◌++◌, length, Option, Some, None, refl, ap, ◌∙◌, arith, ⊎_elim}
+use Rattle.std.proofs.Common.{◌≡◌, ℕ, zero, suc, ◌+◌, ◌-◌, ◌*◌, ◌^◌, ◌≤◌, ◌<◌, min, max, List, [], ◌∷◌, ◌++◌, Some, None, refl, ap, ◌∙◌, arith, ⊎_elim}
 use Rattle.std.proofs.Math.Nat.{suc-mul, mul-le-mul_right}
 use Rattle.std.proofs.lemmas.Bool.{cases_lt}
 use Rattle.posix_regex.specs.Expression.{Expression, OneOf, Start, End, Empty, Then, Or, Repeat, size}
-use Rattle.posix_regex.specs.Program.{Item, Takes, AtStart, AtEnd, items_of, copies, optional, at_least, between, either}
+use Rattle.posix_regex.specs.Program.{Item, Takes, AtStart, AtEnd, items_of, at_least, between, either}
 use Rattle.posix_regex.specs.Fragment.{IsSized}
 
 pub then_sized : (s t k : ℕ) (xs ys zs : List Item) (a b : Expression) → IsSized s xs a → IsSized t ys b → k ≡ min (s + t) 4097 → (k ≤ 4096 → zs ≡ xs ++ ys) → IsSized k zs (Then a b)

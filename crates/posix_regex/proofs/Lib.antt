@@ -1,10 +1,13 @@
 pub mod Complete
 pub mod Found
 pub mod Fragments
+pub mod Inserted
+pub mod Marks
 pub mod Members
 pub mod Reading
 pub mod Relations
 pub mod Rows
+pub mod Searching
 pub mod Sets
 pub mod Sound
 pub mod Whole

@@ -1,5 +1,5 @@
 -- Reading a pattern token by token.
-use Rattle.std.proofs.Common.{◌≡◌, ◌⊎◌, ℕ, zero, suc, ◌+◌, ◌-◌, ◌<◌, ◌≤◌, Bool, true, false, List, [], ◌∷◌, length, drop, Ok, Err, Result, IsOkAnd, refl, sym, ap, ◌∙◌, inl, inr, subst, ⊎_elim, arith}
+use Rattle.std.proofs.Common.{◌≡◌, ◌⊎◌, ℕ, zero, suc, ◌+◌, ◌-◌, ◌<◌, ◌≤◌, Bool, List, [], ◌∷◌, length, drop, Ok, Err, Result, IsOkAnd, refl, sym, ap, ◌∙◌, inl, inr, subst, ⊎_elim, arith}
 use Rattle.std.proofs.Math.Seq.{drop-cons}
 use Rattle.std.proofs.Math.ListN.{drop_of_length-le}
 use Rattle.std.proofs.lemmas.List.{drop-drop}
@@ -13,7 +13,7 @@ use Rattle.posix_regex.specs.Bracket.{on_ok}
 use Rattle.posix_regex.specs.Expression.{Expression}
 use Rattle.posix_regex.specs.Token.{Token, Open, token_at, begins_after, bare_after}
 use Rattle.posix_regex.specs.Pattern.{Group, Reading, group_at, add_token, finish, fault_at, fault_from, read_from}
-use Rattle.posix_regex.specs.Reader.{StandsFor, AllStand, StandsForAll, Adds, no_memory}
+use Rattle.posix_regex.specs.Reader.{StandsFor, AllStand, StandsForAll, no_memory}
 
 pub AllStand-length : (frames : List Frame) (groups : List Group) → AllStand frames groups → length groups ≡ length frames
 AllStand-length [] [] h = refl

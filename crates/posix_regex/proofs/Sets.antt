@@ -1,5 +1,5 @@
 -- The expressions of sets.
-use Rattle.std.proofs.Common.{◌≡◌, ℕ, ◌<◌, ◌||◌, ◌==◌, Bool, true, false, ap, sym, ◌∙◌, refl}
+use Rattle.std.proofs.Common.{◌≡◌, ℕ, ◌<◌, ◌||◌, ◌==◌, Bool, true, false, ap, ◌∙◌}
 use Rattle.byte_class.specs.declared.byte_set.ByteSet.{ByteSet}
 use Rattle.byte_class.specs.ByteSet.{has, members, folded, in_set}
 use Rattle.byte_class.proofs.Members.{members_agree, in_set_agree}

@@ -1,12 +1,12 @@
 -- The expression of a whole pattern, and how many items it has.
-use Rattle.std.proofs.Common.{◌≡◌, ℕ, zero, suc, ◌+◌, ◌*◌, ◌<◌, ◌≤◌, max, Bool, true, false, List, [], ◌∷◌, ◌++◌, length, Option, Some, None, Ok, Err, Result, IsOkAnd, IfOk, refl, ap, ◌∙◌, arith, length-append, nat_lt}
+use Rattle.std.proofs.Common.{◌≡◌, ℕ, zero, suc, ◌+◌, ◌*◌, ◌<◌, ◌≤◌, max, Bool, true, false, List, [], ◌∷◌, ◌++◌, length, Some, None, Ok, Err, Result, IsOkAnd, IfOk, refl, ap, arith, length-append, nat_lt}
 use Rattle.std.proofs.Math.Nat.{suc-mul, mul-le-mul_left}
 use Rattle.std.proofs.lemmas.Bool.Decides.{nat_tests}
 use Rattle.posix_regex.specs.declared.fault.RegexCause.TheVariants.{TooBig}
 use Rattle.posix_regex.specs.declared.fault.RegexFault.{RegexFault}
 use Rattle.posix_regex.specs.Bracket.{on_ok}
 use Rattle.posix_regex.specs.Expression.{Expression, OneOf, Start, End, Empty, Then, Or, Repeat, size}
-use Rattle.posix_regex.specs.Program.{Item, Fork, Back, Skip, items_of, copies, optional, again, at_least, between, either}
+use Rattle.posix_regex.specs.Program.{Item, Back, Skip, items_of, copies, optional, again, at_least, between, either}
 use Rattle.posix_regex.specs.Fragment.{IsSized}
 use Rattle.posix_regex.specs.Pattern.{nothing_read, read_from, small_enough, expression_at}
 

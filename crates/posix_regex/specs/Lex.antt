@@ -1,5 +1,5 @@
 -- What the bytes of a pattern mean, in extended and in basic syntax.
-use Rattle.std.specs.Prelude.{ℕ, ◌+◌, ◌==◌, ◌||◌, ◌&&◌, not, Bool, List, [], ◌∷◌, length, Option, Some, None, codes, nat_eq, if◌then◌else◌}
+use Rattle.std.specs.Prelude.{ℕ, ◌==◌, ◌||◌, ◌&&◌, not, Bool, List, [], ◌∷◌, length, Some, None, codes, nat_eq, if◌then◌else◌}
 use Rattle.std.specs.List.{starts_with}
 use Rattle.byte_class.specs.Class.{is_alnum}
 use Rattle.posix_regex.specs.declared.lex.Meaning.{Meaning}

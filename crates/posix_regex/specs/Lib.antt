@@ -2,9 +2,11 @@ pub mod Bracket
 pub mod Expression
 pub mod Fragment
 pub mod Interval
+pub mod Lead
 pub mod Lex
 pub mod Moves
 pub mod Pattern
 pub mod Program
 pub mod Reader
+pub mod StateSet
 pub mod Token

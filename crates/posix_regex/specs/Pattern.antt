@@ -1,5 +1,5 @@
 -- What a pattern stands for, or why it is refused.
-use Rattle.std.specs.Prelude.{ℕ, zero, suc, ◌+◌, ◌-◌, ◌==◌, nat_lt, Bool, true, false, List, [], ◌∷◌, length, Option, Some, None, Result, Ok, Err, if◌then◌else◌}
+use Rattle.std.specs.Prelude.{ℕ, zero, suc, ◌+◌, ◌-◌, ◌==◌, nat_lt, Bool, true, List, [], ◌∷◌, length, Option, Some, None, Result, Ok, Err, if◌then◌else◌}
 use Rattle.posix_regex.specs.declared.fault.RegexCause.{RegexCause}
 use Rattle.posix_regex.specs.declared.fault.RegexCause.TheVariants.{BadRepeat, BadGroup, TooDeep, TooBig}
 use Rattle.posix_regex.specs.declared.fault.RegexFault.{RegexFault}

@@ -1,5 +1,5 @@
 -- What an expression is turned into: items in a row, of which each leads on to at most two others.
-use Rattle.std.specs.Prelude.{ℕ, zero, suc, ◌+◌, List, [], ◌∷◌, ◌++◌, length, Option, Some, None}
+use Rattle.std.specs.Prelude.{ℕ, zero, suc, ◌+◌, List, [], ◌∷◌, ◌++◌, length, Some, None}
 use Rattle.byte_class.specs.ByteSet.{has, members}
 use Rattle.posix_regex.specs.declared.states.State.{State}
 use Rattle.posix_regex.specs.declared.states.State.TheVariants.{Set as KeptSet, Start as KeptStart, End as KeptEnd, Fork as KeptFork, Back as KeptBack, Skip as KeptSkip}

@@ -1,5 +1,5 @@
 -- What is kept of a pattern while it is read.
-use Rattle.std.specs.Prelude.{◌≡◌, ◌⊎◌, List, [], ◌∷◌, Result, Ok, Err, IsOkAnd, MatchResult}
+use Rattle.std.specs.Prelude.{◌≡◌, ◌⊎◌, List, [], ◌∷◌, Result, Err, IsOkAnd, MatchResult}
 use Rattle.posix_regex.specs.declared.fault.RegexCause.{RegexCause}
 use Rattle.posix_regex.specs.declared.fault.RegexCause.TheVariants.{OutOfMemory}
 use Rattle.posix_regex.specs.declared.fault.RegexFault.{RegexFault}

@@ -10,10 +10,13 @@ mod lex;
 mod pattern;
 mod reader;
 mod regex;
+mod search;
+mod state_set;
 mod states;
 #[cfg(test)]
 mod tests;
 mod token;
 
+pub use byte_class::Steps;
 pub use fault::{RegexCause, RegexFault};
 pub use regex::Regex;

@@ -1,6 +1,6 @@
 //! Regular expressions.
-ghost use Rattle.std.specs.Prelude.{◌≡◌, ◌⊎◌, ◌*◌, ◌≤◌, Err, length, IfOk, IsOkAnd, MatchResult};
-ghost use Rattle.posix_regex.specs.Expression.{size};
+ghost use Rattle.std.specs.Prelude.{◌≡◌, ◌⊎◌, ◌↔◌, ◌+◌, ◌*◌, ◌≤◌, Err, length, IfOk, IsOkAnd, IsTrue, MatchResult};
+ghost use Rattle.posix_regex.specs.Expression.{Expression, Found, size};
 ghost use Rattle.posix_regex.specs.Pattern.{expression_at};
 ghost use Rattle.posix_regex.specs.Program.{items_of};
 ghost use Rattle.posix_regex.specs.Reader.{no_memory};
@@ -8,25 +8,47 @@ ghost use Rattle.posix_regex.specs.Reader.{no_memory};
 use crate::fault::{RegexCause, RegexFault};
 use crate::fragment::MAX_SIZE;
 use crate::pattern::read_pattern;
+use crate::search::search;
+use crate::state_set::StateSet;
 use crate::states::States;
-use std::alloc::Global;
+use byte_class::Steps;
+use std::alloc::{AllocError, Global};
 use std::marker::Model;
+use std::sync::ledger::Ledger;
 
 /// A regular expression over bytes, after POSIX (Base Definitions, "Regular Expressions"), as items that
-/// lead on to one another. It has no back-references, no collating symbols and no equivalence classes,
+/// lead on to one another, with the sets that a search fills. It has no back-references, no collating symbols and no equivalence classes,
 /// and of the escapes of letters and digits none.
 #[derive(Drop)]
 pub struct Regex {
     states: States,
+    reached: StateSet,
+    following: StateSet,
 }
 
 impl Model for Regex {
-    ghost use Rattle.std.specs.Prelude.{List};
+    ghost use Rattle.std.specs.Prelude.{◌≡◌, ◌+◌, List, length};
     ghost use Rattle.posix_regex.specs.Program.{Item};
 
     ghost Value = { List Item };
 
     ghost view = { λ r. r.states };
+
+    ghost invariant = { λ r. (r.reached.width ≡ length r.states + 1) × (r.following.width ≡ length r.states + 1) };
+}
+
+/// The expression of some states, with empty sets.
+fn with_sets(alloc: Global, states: States) -> Result<Regex, AllocError>
+    ensures { IfOk result (λ regex. regex ≡ states) }
+{
+    let width = states.len() + 1;
+    let reached = StateSet::new(alloc, width)?;
+    let following = StateSet::new(alloc, width)?;
+    Ok(Regex {
+        states,
+        reached,
+        following,
+    })
 }
 
 impl Regex {
@@ -53,9 +75,30 @@ impl Regex {
                 cause: RegexCause::TooBig,
             });
         }
-        Ok(Regex {
-            states: whole.states,
-        })
+        match with_sets(alloc, whole.states) {
+            Ok(regex) => Ok(regex),
+            Err(_) => Err(RegexFault {
+                place: 0,
+                cause: RegexCause::OutOfMemory,
+            }),
+        }
+    }
+
+    /// Whether the expression spans some part of the text. It takes no memory, and goes through the text
+    /// once.
+    pub fn matches<L: Ledger>(&mut self, text: &[u8], steps: &mut Steps<L>) -> bool
+        ensures value { (e : Expression) → self.old ≡ items_of e → (IsTrue result ↔ Found e text.now) }
+        ensures same { self.new ≡ self.old }
+        ensures rising { steps.old ≤ steps.new }
+        ensures bound { steps.new ≤ steps.old + (length self.old + 1) * (length text.now + 1) }
+    {
+        search(
+            &self.states,
+            text,
+            &mut self.reached,
+            &mut self.following,
+            steps,
+        )
     }
 
     /// How many items the expression has.

@@ -1,10 +1,14 @@
 //! The states of an expression.
-ghost use Rattle.std.specs.Prelude.{◌≡◌, ◌<◌, ◌^◌, [], ◌∷◌, ◌++◌, Some, length, slice_get, OnOk, IfOk};
-ghost use Rattle.posix_regex.specs.Program.{item_of, copies, optional, again, at_least, between, either};
+ghost use Rattle.std.specs.Prelude.{◌≡◌, ◌↔◌, ℕ, ◌+◌, ◌<◌, ◌≤◌, ◌^◌, [], ◌∷◌, ◌++◌, Some, length, slice_get, OnOk, IfOk};
+ghost use Rattle.posix_regex.specs.Moves.{Leads};
+ghost use Rattle.posix_regex.specs.Lead.{LeadsTo};
+ghost use Rattle.byte_class.specs.ByteSet.{has, members};
+ghost use Rattle.posix_regex.specs.Program.{Takes, item_of, copies, optional, again, at_least, between, either};
 
-use byte_class::ByteSet;
+use byte_class::{ByteSet, Steps};
 use std::alloc::{AllocError, Global};
 use std::marker::Model;
+use std::sync::ledger::Ledger;
 
 /// A state, which takes a byte of the set, asks for the first or the last place, or leads on: a fork to
 /// the next state and to one further on, a way back to the next and to one before, a skip to one further
@@ -17,6 +21,66 @@ pub(crate) enum State {
     Fork(usize),
     Back(usize),
     Skip(usize),
+}
+
+/// What a state leads to at a place of the text: nothing, one or two states at that place, or one at the
+/// next place.
+#[derive(Clone, Copy)]
+pub(crate) enum Lead {
+    Nowhere,
+    Here(usize),
+    Both(usize, usize),
+    Further(usize),
+}
+
+/// What a state that takes a byte of the set leads to at a place of the text.
+#[inline(always)]
+fn lead_of_set(set: ByteSet, s: usize, text: &[u8], at: usize) -> Lead
+    requires { s < 2 ^ 63 }
+    ensures { (u j : ℕ) → (Leads text.now (Some (Takes (members (has set)))) s at u j ↔ LeadsTo result at u j) }
+{
+    if at >= text.len() {
+        return Lead::Nowhere;
+    }
+    if !set.contains(text[at]) {
+        return Lead::Nowhere;
+    }
+    Lead::Further(s + 1)
+}
+
+/// What a state of the row leads to at a place of the text.
+#[inline(always)]
+fn lead_of(state: State, s: usize, text: &[u8], at: usize) -> Lead
+    requires state { s < 2 ^ 63 }
+    requires place { at ≤ length text.now }
+    ensures { (u j : ℕ) → u < 2 ^ 63 → (Leads text.now (Some (item_of state)) s at u j ↔ LeadsTo result at u j) }
+{
+    match state {
+        State::Set(set) => lead_of_set(set, s, text, at),
+        State::Start => {
+            if at == 0 {
+                Lead::Here(s + 1)
+            } else {
+                Lead::Nowhere
+            }
+        }
+        State::End => {
+            if at == text.len() {
+                Lead::Here(s + 1)
+            } else {
+                Lead::Nowhere
+            }
+        }
+        State::Fork(further) => Lead::Both(s + 1, s.saturating_add(further)),
+        State::Back(before) => {
+            if before <= s {
+                Lead::Both(s + 1, s - before)
+            } else {
+                Lead::Here(s + 1)
+            }
+        }
+        State::Skip(further) => Lead::Here(s.saturating_add(further)),
+    }
 }
 
 /// States in a row.
@@ -71,6 +135,25 @@ impl States {
         ensures { slice_get self.now place ≡ Some (item_of result) }
     {
         self.kept[place]
+    }
+
+    /// What the state leads to at a place of the text. This is one step.
+    #[inline(always)]
+    pub(crate) fn lead<L: Ledger>(
+        &self,
+        s: usize,
+        text: &[u8],
+        at: usize,
+        steps: &mut Steps<L>,
+    ) -> Lead
+        requires state { s < length self.now }
+        requires place { at ≤ length text.now }
+        ensures value { (u j : ℕ) → u ≤ length self.now → (Leads text.now (slice_get self.now s) s at u j ↔ LeadsTo result at u j) }
+        ensures step { steps.new ≡ steps.old + 1 }
+    {
+        steps.tick();
+        let _len = self.len();
+        lead_of(self.at(s), s, text, at)
     }
 
     /// Adds other states at the end.

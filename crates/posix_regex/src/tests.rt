@@ -1,7 +1,12 @@
-//! Patterns that are read or refused, each worked by hand.
+//! Patterns that are read or refused, and texts that they find, each worked by hand.
+ghost use Rattle.std.specs.Prelude.{◌≡◌, ◌<◌};
+
 use crate::fault::{RegexCause, RegexFault};
 use crate::regex::Regex;
+use byte_class::Steps;
 use std::alloc::Global;
+use std::marker::Brand;
+use std::sync::ledger::{Blank, Ledger};
 use std::test::Fail;
 
 // What reading a pattern answers: how many items, or the cause's number and the place.
@@ -178,5 +183,114 @@ fn sizes_are_at_most_4096(rt: HostRuntime) -> Result<(), Fail> {
     assert!(rt; answer(alloc, &pattern, true) == (8, 0));
     pattern.push(b')')?;
     assert!(rt; answer(alloc, &pattern, true) == (4, 4097));
+    Ok(())
+}
+
+fn counted<L: Ledger>(blank: Blank, regex: &mut Regex, text: &[u8]) -> bool
+    requires name { blank.name ≡ L.name }
+    requires parts { blank.parts ≡ L.parts }
+    requires some { 0 < L.parts }
+{
+    let mut steps = Steps::<L>::new(blank);
+    regex.matches(text, &mut steps)
+}
+
+// What a caller writes that counts no steps.
+fn is_match(regex: &mut Regex, text: &[u8]) -> bool {
+    counted::<Brand>(Blank::new(1), regex, text)
+}
+
+// Whether the pattern finds the text, or not where it is refused.
+fn finds(alloc: Global, pattern: &[u8], text: &[u8], extended: bool, fold: bool) -> bool {
+    match Regex::read(alloc, pattern, extended, fold) {
+        Ok(regex) => {
+            let mut regex = regex;
+            is_match(&mut regex, text)
+        }
+        Err(_) => false,
+    }
+}
+
+// The first row that is answered otherwise. A row is four letters, for extended syntax without and with folding and
+// for basic syntax without and with folding, then a pattern and a text.
+fn first_missed(alloc: Global, rows: &'static str) -> Option<&'static str> {
+    for row in rows.lines() {
+        let Some((answers, case)) = row.split_once(' ') else {
+            return Some(row);
+        };
+        let Some((pattern, text)) = case.split_once(' ') else {
+            return Some(row);
+        };
+        let (pattern, text, answers) = (pattern.as_bytes(), text.as_bytes(), answers.as_bytes());
+        if answers.len() != 4
+            || finds(alloc, pattern, text, true, false) != (answers[0] == b'y')
+            || finds(alloc, pattern, text, true, true) != (answers[1] == b'y')
+            || finds(alloc, pattern, text, false, false) != (answers[2] == b'y')
+            || finds(alloc, pattern, text, false, true) != (answers[3] == b'y')
+        {
+            return Some(row);
+        }
+    }
+    None
+}
+
+const FOUND: &str = r"yynn ^/a(.b)?$ /a
+yynn ^/a(.b)?$ /a.b
+nnnn ^/a(.b)?$ /a/z
+nnyy ^/a\(.b\)*$ /a
+nnyy ^/a\(.b\)*$ /a.b
+nnnn ^/a\(.b\)*$ /a.bc
+yyyy [/.][bz]$ /a.b
+yyyy [/.][bz]$ /a/z
+nnnn [/.][bz]$ /a
+nyny A$ /a
+yynn a|z /z
+yyyy a|z a|z
+yynn (a*)*b aaab
+nnnn (a*)*b aaaa
+yyyy a*b b
+yynn ^(ab|cd){2}$ abcd
+nnnn ^(ab|cd){2}$ ab
+nnnn ^(ab|cd){2}$ abcdab
+yynn ^a{2,3}$ aaa
+nnnn ^a{2,3}$ aaaa
+nnnn ^a{2,3}$ a
+yynn ^a{2,}$ aaaa
+yynn ^a+b?$ aa
+yynn ^(|a)$ a
+yyyy [^a] ab
+nnnn ^[^a]$ a
+ynyn ^[^a]$ A
+yyyy ^[]a]$ ]
+yyyy ^[a\]$ \
+yyyy \.$ a.
+nnnn \.$ ab
+nnyy a^b a^b
+nnyy a$b a$b
+nnyy *a *a
+yyyy ^*a *a
+yynn ^*a ba
+yyyy ^[[:digit:]]*$ 123
+nnnn ^[[:digit:]]*$ 12a
+yyyy b abc
+nnnn d abc";
+
+#[test]
+fn expressions_find_worked_texts(rt: HostRuntime) -> Result<(), Fail> {
+    let wrong = first_missed(rt.alloc(), FOUND);
+    assert!(rt; wrong.is_none(), "{wrong:?}");
+    Ok(())
+}
+
+#[test]
+fn newlines_and_bytes_are_as_others(rt: HostRuntime) -> Result<(), Fail> {
+    let alloc = rt.alloc();
+    assert!(rt; finds(alloc, b"a.b", b"a\nb", true, false));
+    assert!(rt; !finds(alloc, b"a$", b"a\n", true, false));
+    assert!(rt; !finds(alloc, b"^b", b"a\nb", true, false));
+    assert!(rt; finds(alloc, b"^.$", b"\xFF", true, false));
+    assert!(rt; finds(alloc, b"^.$", b"\0", true, false));
+    assert!(rt; finds(alloc, b"$", b"", true, false));
+    assert!(rt; finds(alloc, b"", b"", true, false));
     Ok(())
 }

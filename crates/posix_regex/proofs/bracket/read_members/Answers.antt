@@ -1,6 +1,6 @@
 use Rattle.std.proofs.Common.{◌+◌, ◌≡◌, ◌≤◌, length, drop, arith, rules, length-drop}
 use Rattle.posix_regex.specs.Bracket.{members_first}
-use Rattle.posix_regex.proofs.Members.{Reads, Reads-first, Reads-more, Reads-closed, Reads-fault, Reads-nil, members_first-fault, members_first-nil, rest_is}
+use Rattle.posix_regex.proofs.Members.{Reads-first, Reads-more, Reads-closed, Reads-fault, Reads-nil, members_first-fault, members_first-nil, rest_is}
 use Rattle.posix_regex.proofs.bracket.read_members.Goals as goal
 
 pub returns-then-is_empty-clause-value : goal.returns-then-is_empty-clause-value

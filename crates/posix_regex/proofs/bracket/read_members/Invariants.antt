@@ -1,4 +1,4 @@
-use Rattle.std.proofs.Common.{ℕ, ◌+◌, ◌-◌, ◌<◌, ◌≤◌, length, drop}
+use Rattle.std.proofs.Common.{◌+◌, ◌-◌, ◌<◌, ◌≤◌, length, drop}
 use Rattle.posix_regex.specs.Bracket.{members_first}
 use Rattle.posix_regex.proofs.Members.{Reads}
 use Rattle.posix_regex.proofs.bracket.read_members.Given as goal

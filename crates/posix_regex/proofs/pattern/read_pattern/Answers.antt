@@ -1,4 +1,4 @@
-use Rattle.std.proofs.Common.{◌≤◌, ◌∙◌, length, drop, inr, inl, sym, true, length-drop, arith}
+use Rattle.std.proofs.Common.{◌≤◌, ◌∙◌, length, drop, inr, sym, true, length-drop, arith}
 use Rattle.posix_regex.specs.Token.{token_of}
 use Rattle.posix_regex.specs.Pattern.{nothing_read, read_from}
 use Rattle.posix_regex.proofs.Members.{rest_is}

@@ -1,4 +1,4 @@
-use Rattle.std.proofs.Common.{◌≡◌, ◌+◌, ◌*◌, min, max, arith, rules, ap, sym, ◌∙◌}
+use Rattle.std.proofs.Common.{◌≡◌, ◌+◌, ◌*◌, min, max, arith, rules}
 use Rattle.posix_regex.proofs.Fragments.{at_least_sized}
 use Rattle.posix_regex.proofs.fragment.Fragment.at_least.Goals as goal
 

@@ -1,4 +1,4 @@
-use Rattle.std.proofs.Common.{◌≡◌, ℕ, length, inr, arith}
+use Rattle.std.proofs.Common.{inr, arith}
 use Rattle.posix_regex.proofs.Reading.{AllStand-length, open-full, open-stands}
 use Rattle.posix_regex.proofs.reader.Reader.open.Goals as goal
 

@@ -1,4 +1,3 @@
-use Rattle.std.proofs.Common.{take}
 use Rattle.posix_regex.specs.Program.{item_of}
 use Rattle.posix_regex.proofs.Rows.{append_next}
 use Rattle.posix_regex.proofs.states.States.append.Goals as goal

@@ -1,0 +1,94 @@
+//! Sets of states, with their members in the order in which they came.
+ghost use Rattle.std.specs.Prelude.{◌≡◌, ◌⊎◌, ◌≤◌, ◌<◌, ◌++◌, ◌∷◌, [], ℕ, length, slice_index, slice_index_or, false, Contains, IfOk};
+
+use std::alloc::{AllocError, Global};
+use std::marker::Model;
+
+/// A set of states below a number.
+#[derive(Drop)]
+pub(crate) struct StateSet {
+    order: Vec<usize>,
+    count: usize,
+    marks: Vec<bool>,
+}
+
+impl Model for StateSet {
+    ghost use Rattle.std.specs.Prelude.{length, take};
+    ghost use Rattle.posix_regex.specs.StateSet.{Members, AreMarked};
+
+    ghost Value = { Members };
+
+    ghost view = { λ s. record { width = length s.marks.items; order = take s.count s.order.items } };
+
+    ghost invariant = { λ s. AreMarked s.order.items s.count s.marks.items };
+}
+
+/// Takes every mark away.
+fn unmark(marks: &mut Vec<bool>)
+    ensures len { length marks.new.items ≡ length marks.old.items }
+    ensures none { (k : ℕ) → slice_index_or marks.new.items k false ≡ false }
+{
+    for k in 0..marks.len() {
+        marks[k] = false;
+    }
+}
+
+impl StateSet {
+    /// The empty set of states below a number.
+    pub(crate) fn new(alloc: Global, width: usize) -> Result<StateSet, AllocError>
+        ensures { IfOk result (λ s. (s.width ≡ width) × (s.order ≡ [])) }
+    {
+        let order = vec![in alloc; 0; width]?;
+        let marks = vec![in alloc; false; width]?;
+        Ok(StateSet {
+            order,
+            count: 0,
+            marks,
+        })
+    }
+
+    /// How many states the set has.
+    #[inline(always)]
+    pub(crate) fn len(&self) -> usize
+        ensures value { result ≡ length self.now.order }
+        ensures few { length self.now.order ≤ self.now.width }
+    {
+        self.count
+    }
+
+    /// The state that came at a place.
+    #[inline(always)]
+    pub(crate) fn at(&self, place: usize) -> usize
+        requires { place < length self.now.order }
+        ensures value { result ≡ slice_index self.now.order place }
+        ensures below { result < self.now.width }
+    {
+        self.order[place]
+    }
+
+    /// No state.
+    pub(crate) fn clear(&mut self)
+        ensures width { self.new.width ≡ self.old.width }
+        ensures empty { self.new.order ≡ [] }
+    {
+        unmark(&mut self.marks);
+        self.count = 0;
+    }
+
+    /// The set with a state, if that is below the number.
+    pub(crate) fn insert(&mut self, state: usize)
+        ensures width { self.new.width ≡ self.old.width }
+        ensures order { (self.new.order ≡ self.old.order) ⊎ ((state < self.old.width) × (self.new.order ≡ self.old.order ++ state ∷ [])) }
+        ensures has { state < self.old.width → Contains self.new.order state }
+    {
+        if state >= self.marks.len() {
+            return;
+        }
+        if self.marks[state] {
+            return;
+        }
+        self.marks[state] = true;
+        self.order[self.count] = state;
+        self.count += 1;
+    }
+}
