@@ -1,4 +1,4 @@
-use Rattle.std.proofs.Common.{ap, refl, Ok, Err}
+use Rattle.std.proofs.Common.{ap, refl, Err}
 use Rattle.locate_tools.proofs.Updating.{does_as}
 use Rattle.locate_tools.proofs.updatedb_run.updatedb.Goals as goal
 
