@@ -3,3 +3,4 @@ mod HoldingLemmas
 mod ScanLemmas
 mod MemoryLemmas
 mod ToldLemmas
+pub mod UpdateLemmas

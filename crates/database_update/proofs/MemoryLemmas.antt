@@ -5,7 +5,7 @@ use Rattle.database_update.specs.declared.fault.UpdateFault.{UpdateFault}
 use Rattle.database_update.specs.declared.fault.UpdateFault.TheVariants.{BadConf, BadMount, ReadFault, RootMissing, TreeFault, WriteFault, TooManyNames, TooManyDirectories, OutOfMemory}
 use Rattle.database_update.specs.Faults.{hides_memory, is_of_scan}
 
-scan_hides_none : (fault : UpdateFault) → IsTrue (is_of_scan fault) → hides_memory fault ≡ false
+pub scan_hides_none : (fault : UpdateFault) → IsTrue (is_of_scan fault) → hides_memory fault ≡ false
 scan_hides_none (BadConf line cause) of_scan = absurd cc
 scan_hides_none (BadMount line cause) of_scan = absurd cc
 scan_hides_none (ReadFault file) of_scan = refl

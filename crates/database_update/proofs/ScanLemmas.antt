@@ -1,5 +1,5 @@
 -- What a scan has written, as the bytes that are pending in an output.
-use Rattle.std.proofs.Common.{Bool, ◌≡◌, ℕ, List, [], ◌∷◌, length, take, refl, sym, ap, subst, ◌∙◌, append-nil, inl, inr, Option, Err, IsErrOf, arith}
+use Rattle.std.proofs.Common.{Bool, ◌≡◌, ℕ, List, [], ◌∷◌, length, take, refl, sym, ap, subst, ◌∙◌, append-nil, inl, inr, Option, Ok, Err, IsErrOf, ◌⊎◌, arith}
 use Rattle.std.proofs.Math.Seq.{take-length}
 use Rattle.std.specs.Io.KnownBytes.{Appends}
 use Rattle.path_order.specs.Stamp.{Moment}
@@ -19,6 +19,7 @@ use Rattle.database_update.specs.declared.fault.UpdateFault.{UpdateFault}
 use Rattle.database_update.specs.declared.fault.UpdateFault.TheVariants as faults
 use Rattle.database_update.specs.Faults.{fault_of}
 use Rattle.database_update.specs.Holding.{none_pending, pending_in}
+use Rattle.database_update.specs.Scans.{Stopped}
 use Rattle.database_update.proofs.HoldingLemmas.{appends_whole, pending_begun, pending_grows}
 
 -- no record is honest by itself
@@ -109,10 +110,44 @@ follows_stored name dirs plan now a b c d e e' e'' start put same lined passed =
     let from : Appends (none_pending a) (pending_in d) (scan_text dirs plan now) = subst (λ (t : Option (List ℕ)). Appends t (pending_in d) (scan_text dirs plan now)) (pending_begun name a b start) grows in
     follows_whole dirs plan now (none_pending a) (pending_in d) e e'' from (subst (λ (t : Option (List ℕ)). Appends e t (echo_text dirs plan)) (sym passed) lined)
 
+-- ---- how far a scan came
+
+-- the same of a scan in whose output a name was begun before, and whose lines were passed on afterwards
+pub stopped_from : (fault : UpdateFault) (now : Moment) (dirs : Dirs) (plan : Plan) (t p t' e e' e'' : Option (List ℕ)) → t ≡ p → e'' ≡ e' → Stopped fault now dirs plan t t' e e' → Stopped fault now dirs plan p t' e e''
+stopped_from fault now dirs plan t p t' e e' e'' start passed s =
+    subst (λ (x : Option (List ℕ)). Stopped fault now dirs plan x t' e e'') start (subst (Stopped fault now dirs plan t t' e) (sym passed) s)
+
+-- a failed write tells nothing of where the scan was
+pub stopped_write : (fault : UpdateFault) (now : Moment) (dirs : Dirs) (plan : Plan) (t t' e e' : Option (List ℕ)) → fault ≡ faults.WriteFault → AppendsPart e e' (echo_text dirs plan) → Stopped fault now dirs plan t t' e e'
+stopped_write fault now dirs plan t t' e e' is part = subst (λ (f : UpdateFault). Stopped f now dirs plan t t' e e') (sym is) (record {
+  echo_part = part;
+  whole_tree = λ was. absurd cc;
+  stops = λ was. absurd cc;
+  whole_names = λ was. absurd cc;
+  stops_wide = λ was. absurd cc;
+  whole_directories = λ was. absurd cc;
+  stops_full = λ was. absurd cc;
+})
+
+-- where the root is missing no write has failed
+pub not_written : (fault : UpdateFault) → IsErrOf {T = Counts} {E = UpdateFault} (Err fault) faults.RootMissing ⊎ IsErrOf {T = Counts} {E = UpdateFault} (Err fault) faults.TreeFault → fault ≡ faults.WriteFault → ⊥
+not_written fault (inl missing) was = absurd cc
+not_written fault (inr failed) was = absurd cc
+
+-- where the root is missing no scan is complete
+pub not_lacking : (counts : Counts) → IsErrOf {T = Counts} {E = UpdateFault} (Ok counts) faults.RootMissing ⊎ IsErrOf {T = Counts} {E = UpdateFault} (Ok counts) faults.TreeFault → ⊥
+not_lacking counts (inl missing) = absurd cc
+not_lacking counts (inr failed) = absurd cc
+
 -- ---- which fault of a scan it was
 
-pub err_is : (x y : UpdateFault) → IsErrOf {T = Counts} {E = UpdateFault} (Err x) y → x ≡ y
-err_is x y e = cc
+pub was_root_missing : (f : ScanFault) → fault_of f ≡ faults.RootMissing → f ≡ scan_faults.RootMissing
+was_root_missing scan_faults.RootMissing e = refl
+was_root_missing scan_faults.TreeFault e = absurd cc
+was_root_missing scan_faults.WriteFault e = absurd cc
+was_root_missing scan_faults.TooManyNames e = absurd cc
+was_root_missing scan_faults.TooManyDirectories e = absurd cc
+was_root_missing scan_faults.OutOfMemory e = absurd cc
 
 pub was_tree_fault : (f : ScanFault) → fault_of f ≡ faults.TreeFault → f ≡ scan_faults.TreeFault
 was_tree_fault scan_faults.RootMissing e = absurd cc

@@ -1,3 +1,5 @@
+pub mod Updates
+pub mod Scans
 pub mod SettingsFiles
 pub mod Settings
 pub mod Holding

@@ -1,19 +1,17 @@
 //! The scan into the output, and the commit.
-ghost use Rattle.std.specs.Prelude.{◌≡◌, ◌≢◌, ◌≤◌, ◌<◌, ◌+◌, ◌^◌, ◌⊎◌, length, true, false, take, [], option_map, Some, None, Ok, Err, OnOk, OnErr, IfOk, IfErr, IfSome, IsErrOf, IsSome, IsTrue};
-ghost use Rattle.std.specs.FinMap.{get, entries};
-ghost use Rattle.std.specs.Io.KnownBytes.{Appends};
+ghost use Rattle.std.specs.Prelude.{◌≡◌, ◌≢◌, ◌≤◌, ◌<◌, ◌+◌, ◌^◌, ◌⊎◌, length, false, [], option_map, Some, None, Ok, Err, OnOk, OnErr, IfOk, IfErr, IfSome, IsErrOf, IsSome, IsTrue};
+ghost use Rattle.std.specs.FinMap.{get};
 ghost use Rattle.path_order.specs.Path.{is_normal};
 ghost use Rattle.loc_outside.specs.Causes.{Rose, raised};
 ghost use Rattle.loc_outside.specs.Held.{committed, emptied, grown};
-ghost use Rattle.loc_outside.specs.Outside.{AppendsPart};
 ghost use Rattle.loc_outside.specs.Trees.{Dirs};
-ghost use Rattle.tree_scan.specs.Blocks.{scan_text, scan_pieces, echo_text, entries_of};
+ghost use Rattle.tree_scan.specs.Blocks.{scan_text, scan_pieces, entries_of};
 ghost use Rattle.tree_scan.specs.Plans.{plan_of};
-ghost use Rattle.tree_scan.specs.Reach.{reached, tried as tried_directories};
-ghost use Rattle.tree_scan.specs.Steps.{priced_candidates};
-ghost use Rattle.tree_scan.specs.Walks.{HasWide, LinesFollow, ListsMore, Narrow, StopsAt, StopsAtWide, StopsWide, Whole, WroteOf};
+ghost use Rattle.tree_scan.specs.Reach.{reached};
+ghost use Rattle.tree_scan.specs.Walks.{LinesFollow};
 ghost use Rattle.database_update.specs.Faults.{is_of_scan};
-ghost use Rattle.database_update.specs.Holding.{Begins, GrowsPart, Leaves, none_pending, pending_in, stored_in, with_file, with_pending};
+ghost use Rattle.database_update.specs.Holding.{Begins, GrowsPart, pending_in, stored_in, with_file, with_pending};
+ghost use Rattle.database_update.specs.Scans.{AskedOf, Completed, Exceeded, Failures, Found, Left, Stopped};
 
 use crate::fault::{UpdateFault, fault_of_scan};
 use loc_outside::{BufferedSink, Output, Tree};
@@ -34,41 +32,24 @@ fn scan_into<T: Tree, O: Output, P: BufferedSink>(
     requires version { rules.now.version < 2 }
     requires block { length (plan_of rules.now).block < 2 ^ 32 }
     ensures done { OnOk result ((dirs : Dirs) → T.dirs tree.old ≡ Some dirs → O.held output.new ≡ option_map (grown (scan_text dirs (plan_of rules.now) now)) (O.held output.old)) }
-    ensures echoed { OnOk result ((dirs : Dirs) → T.dirs tree.old ≡ Some dirs → Appends (P.taken out.old) (P.taken out.new) (echo_text dirs (plan_of rules.now))) }
+    ensures completed { OnOk result ((dirs : Dirs) → T.dirs tree.old ≡ Some dirs → Completed dirs (plan_of rules.now) (P.taken out.old) (P.taken out.new) (T.openings tree.old) (T.openings tree.new)) }
     ensures counts { IfOk result (λ counts. (dirs : Dirs) → T.dirs tree.old ≡ Some dirs → (counts.directories ≡ length (reached dirs (plan_of rules.now).pruned (plan_of rules.now).root)) × (counts.entries ≡ length (entries_of (reached dirs (plan_of rules.now).pruned (plan_of rules.now).root)))) }
-    ensures few { OnOk result ((dirs : Dirs) → T.dirs tree.old ≡ Some dirs → length (tried_directories dirs (plan_of rules.now).pruned (plan_of rules.now).root) ≤ 4294967295) }
-    ensures narrow { OnOk result ((dirs : Dirs) → T.dirs tree.old ≡ Some dirs → Narrow 16777216 (reached dirs (plan_of rules.now).pruned (plan_of rules.now).root)) }
-    ensures exact { OnOk result ((dirs : Dirs) → T.dirs tree.old ≡ Some dirs → T.openings tree.old ≤ 2 ^ 63 → T.openings tree.new ≡ T.openings tree.old + length (tried_directories dirs (plan_of rules.now).pruned (plan_of rules.now).root)) }
     ensures part { OnErr result ((dirs : Dirs) → T.dirs tree.old ≡ Some dirs → GrowsPart (scan_text dirs (plan_of rules.now) now) (O.held output.old) (O.held output.new)) }
-    ensures echo_part { OnErr result ((dirs : Dirs) → T.dirs tree.old ≡ Some dirs → AppendsPart (P.taken out.old) (P.taken out.new) (echo_text dirs (plan_of rules.now))) }
+    ensures stopped { IfErr result (λ fault. (dirs : Dirs) → T.dirs tree.old ≡ Some dirs → Stopped fault now dirs (plan_of rules.now) (pending_in (O.held output.old)) (pending_in (O.held output.new)) (P.taken out.old) (P.taken out.new)) }
     ensures follows { OnErr result ((dirs : Dirs) → T.dirs tree.old ≡ Some dirs → LinesFollow (scan_pieces dirs (plan_of rules.now) now) (pending_in (O.held output.old)) (pending_in (O.held output.new)) (P.taken out.old) (P.taken out.new)) }
     ensures untouched { IsErrOf result UpdateFault.RootMissing → (output.new ≡ output.old) × (out.new ≡ out.old) }
-    ensures whole_tree { IsErrOf result UpdateFault.TreeFault → (dirs : Dirs) → T.dirs tree.old ≡ Some dirs → Whole dirs (plan_of rules.now) now (pending_in (O.held output.old)) (pending_in (O.held output.new)) (P.taken out.old) (P.taken out.new) }
-    ensures stops { IsErrOf result UpdateFault.TreeFault → (dirs : Dirs) → T.dirs tree.old ≡ Some dirs → StopsAt [] 16777216 4294967295 dirs (plan_of rules.now) now (pending_in (O.held output.old)) (pending_in (O.held output.new)) (P.taken out.old) (P.taken out.new) }
-    ensures stops_wide { IsErrOf result UpdateFault.TooManyNames → (dirs : Dirs) → T.dirs tree.old ≡ Some dirs → StopsWide [] 16777216 4294967295 true dirs (plan_of rules.now) now (pending_in (O.held output.old)) (pending_in (O.held output.new)) (P.taken out.old) (P.taken out.new) }
-    ensures stops_full { IsErrOf result UpdateFault.TooManyDirectories → (dirs : Dirs) → T.dirs tree.old ≡ Some dirs → StopsAt [] 16777216 4294967295 dirs (plan_of rules.now) now (pending_in (O.held output.old)) (pending_in (O.held output.new)) (P.taken out.old) (P.taken out.new) }
-    ensures whole_names { IsErrOf result UpdateFault.TooManyNames → (dirs : Dirs) → T.dirs tree.old ≡ Some dirs → StopsAtWide dirs (plan_of rules.now) now 16777216 (pending_in (O.held output.old)) (pending_in (O.held output.new)) (P.taken out.old) (P.taken out.new) }
-    ensures whole_directories { IsErrOf result UpdateFault.TooManyDirectories → (dirs : Dirs) → T.dirs tree.old ≡ Some dirs → WroteOf (plan_of rules.now) now (take 4294967295 (tried_directories dirs (plan_of rules.now).pruned (plan_of rules.now).root)) (pending_in (O.held output.old)) (pending_in (O.held output.new)) (P.taken out.old) (P.taken out.new) }
     ensures scan { IfErr result (λ fault. IsTrue (is_of_scan fault)) }
-    ensures missing { IsErrOf result UpdateFault.RootMissing → (dirs : Dirs) → T.dirs tree.old ≡ Some dirs → get dirs rules.now.root ≡ None }
+    ensures found { IfErr result (λ fault. (dirs : Dirs) → T.dirs tree.old ≡ Some dirs → Found fault rules.now.root dirs) }
+    ensures exceeded { IfErr result (λ fault. (dirs : Dirs) → T.dirs tree.old ≡ Some dirs → Exceeded fault dirs (plan_of rules.now)) }
     ensures lacking { (dirs : Dirs) → T.dirs tree.old ≡ Some dirs → get dirs rules.now.root ≡ None → IsErrOf result UpdateFault.RootMissing ⊎ IsErrOf result UpdateFault.TreeFault }
-    ensures tree_fault { IsErrOf result UpdateFault.TreeFault → Rose (T.faults tree.old) (T.faults tree.new) }
-    ensures write_fault { IsErrOf result UpdateFault.WriteFault → Rose (O.faults output.old) (O.faults output.new) ⊎ IsTrue rules.now.verbose × Rose (P.faults out.old) (P.faults out.new) }
-    ensures many_names { IsErrOf result UpdateFault.TooManyNames → (dirs : Dirs) → T.dirs tree.old ≡ Some dirs → ListsMore dirs 16777216 }
-    ensures wide { IsErrOf result UpdateFault.TooManyNames → (dirs : Dirs) → T.dirs tree.old ≡ Some dirs → HasWide 16777216 (reached dirs (plan_of rules.now).pruned (plan_of rules.now).root) }
-    ensures many_directories { IsErrOf result UpdateFault.TooManyDirectories → (dirs : Dirs) → T.dirs tree.old ≡ Some dirs → 4294967295 < length (tried_directories dirs (plan_of rules.now).pruned (plan_of rules.now).root) }
-    ensures more_directories { IsErrOf result UpdateFault.TooManyDirectories → (dirs : Dirs) → T.dirs tree.old ≡ Some dirs → 4294967295 < length (entries dirs) }
-    ensures stats { (dirs : Dirs) → T.dirs tree.old ≡ Some dirs → T.stats tree.new ≤ T.stats tree.old + priced_candidates dirs (plan_of rules.now).pruned (T.priced tree.old) (plan_of rules.now).root }
-    ensures opened { (dirs : Dirs) → T.dirs tree.old ≡ Some dirs → T.openings tree.new ≤ T.openings tree.old + length (tried_directories dirs (plan_of rules.now).pruned (plan_of rules.now).root) }
+    ensures failures { Failures rules.now.verbose result (T.faults tree.old) (T.faults tree.new) (O.faults output.old) (O.faults output.new) (P.faults out.old) (P.faults out.new) }
+    ensures asked_of { (dirs : Dirs) → T.dirs tree.old ≡ Some dirs → AskedOf dirs (plan_of rules.now) (T.priced tree.old) (T.openings tree.old) (T.openings tree.new) (T.stats tree.old) (T.stats tree.new) }
     ensures openings { T.openings tree.new ≤ T.openings tree.old + 4294967295 }
     ensures quiet { rules.now.verbose ≡ false → out.new ≡ out.old }
     ensures begins { O.begins output.new ≡ O.begins output.old }
     ensures begun { option_map emptied (O.held output.new) ≡ option_map emptied (O.held output.old) }
     ensures tree_kept { T.kept tree.old tree.new }
     ensures out_kept { P.kept out.old out.new }
-    ensures tree_later { T.faults tree.old ≤ T.faults tree.new }
-    ensures output_later { O.faults output.old ≤ O.faults output.new }
-    ensures out_later { P.faults out.old ≤ P.faults out.new }
 {
     match scan(
         alloc,
@@ -145,45 +126,25 @@ pub(crate) fn store<T: Tree, O: Output, P: BufferedSink>(
     requires version { rules.now.version < 2 }
     requires block { length (plan_of rules.now).block < 2 ^ 32 }
     ensures stored { OnOk result ((dirs : Dirs) → T.dirs tree.old ≡ Some dirs → O.held output.new ≡ option_map (with_file name.now (scan_text dirs (plan_of rules.now) now)) (O.held output.old)) }
-    ensures echoed { OnOk result ((dirs : Dirs) → T.dirs tree.old ≡ Some dirs → Appends (P.taken out.old) (P.taken out.new) (echo_text dirs (plan_of rules.now))) }
+    ensures completed { OnOk result ((dirs : Dirs) → T.dirs tree.old ≡ Some dirs → Completed dirs (plan_of rules.now) (P.taken out.old) (P.taken out.new) (T.openings tree.old) (T.openings tree.new)) }
     ensures counts { IfOk result (λ counts. (dirs : Dirs) → T.dirs tree.old ≡ Some dirs → (counts.directories ≡ length (reached dirs (plan_of rules.now).pruned (plan_of rules.now).root)) × (counts.entries ≡ length (entries_of (reached dirs (plan_of rules.now).pruned (plan_of rules.now).root)))) }
-    ensures few { OnOk result ((dirs : Dirs) → T.dirs tree.old ≡ Some dirs → length (tried_directories dirs (plan_of rules.now).pruned (plan_of rules.now).root) ≤ 4294967295) }
-    ensures narrow { OnOk result ((dirs : Dirs) → T.dirs tree.old ≡ Some dirs → Narrow 16777216 (reached dirs (plan_of rules.now).pruned (plan_of rules.now).root)) }
-    ensures exact { OnOk result ((dirs : Dirs) → T.dirs tree.old ≡ Some dirs → T.openings tree.old ≤ 2 ^ 63 → T.openings tree.new ≡ T.openings tree.old + length (tried_directories dirs (plan_of rules.now).pruned (plan_of rules.now).root)) }
     ensures begun { OnOk result (O.begins output.new ≡ raised (O.begins output.old) 1) }
     ensures flushed { OnOk result (IsTrue rules.now.verbose → P.held_back out.new ≡ 0) }
     ensures unstored { OnErr result (stored_in (O.held output.new) ≡ stored_in (O.held output.old)) }
-    ensures leaves { IfErr result (λ fault. (dirs : Dirs) → T.dirs tree.old ≡ Some dirs → Leaves fault name.now (scan_text dirs (plan_of rules.now) now) (O.held output.old) (O.held output.new)) }
+    ensures left { IfErr result (λ fault. (dirs : Dirs) → T.dirs tree.old ≡ Some dirs → Left fault name.now now dirs (plan_of rules.now) (O.held output.old) (O.held output.new) (P.taken out.old) (P.taken out.new) (out.new ≡ out.old)) }
     ensures begins { IfErr result (λ fault. Begins fault (O.begins output.old) (O.begins output.new)) }
     ensures held_back { OnErr result (IsTrue rules.now.verbose → (Rose (P.faults out.old) (P.faults out.new) → ⊥) → P.held_back out.old ≡ 0 → P.held_back out.new ≡ 0) }
     ensures empty { IsErrOf result UpdateFault.RootMissing → (O.held output.new ≡ option_map (with_pending name.now []) (O.held output.old)) × (out.new ≡ out.old) }
-    ensures echo_part { OnErr result ((dirs : Dirs) → T.dirs tree.old ≡ Some dirs → AppendsPart (P.taken out.old) (P.taken out.new) (echo_text dirs (plan_of rules.now))) }
-    ensures whole_tree { IsErrOf result UpdateFault.TreeFault → (dirs : Dirs) → T.dirs tree.old ≡ Some dirs → Whole dirs (plan_of rules.now) now (none_pending (O.held output.old)) (pending_in (O.held output.new)) (P.taken out.old) (P.taken out.new) }
-    ensures stops { IsErrOf result UpdateFault.TreeFault → (dirs : Dirs) → T.dirs tree.old ≡ Some dirs → StopsAt [] 16777216 4294967295 dirs (plan_of rules.now) now (none_pending (O.held output.old)) (pending_in (O.held output.new)) (P.taken out.old) (P.taken out.new) }
-    ensures stops_wide { IsErrOf result UpdateFault.TooManyNames → (dirs : Dirs) → T.dirs tree.old ≡ Some dirs → StopsWide [] 16777216 4294967295 true dirs (plan_of rules.now) now (none_pending (O.held output.old)) (pending_in (O.held output.new)) (P.taken out.old) (P.taken out.new) }
-    ensures stops_full { IsErrOf result UpdateFault.TooManyDirectories → (dirs : Dirs) → T.dirs tree.old ≡ Some dirs → StopsAt [] 16777216 4294967295 dirs (plan_of rules.now) now (none_pending (O.held output.old)) (pending_in (O.held output.new)) (P.taken out.old) (P.taken out.new) }
-    ensures whole_names { IsErrOf result UpdateFault.TooManyNames → (dirs : Dirs) → T.dirs tree.old ≡ Some dirs → StopsAtWide dirs (plan_of rules.now) now 16777216 (none_pending (O.held output.old)) (pending_in (O.held output.new)) (P.taken out.old) (P.taken out.new) }
-    ensures whole_directories { IsErrOf result UpdateFault.TooManyDirectories → (dirs : Dirs) → T.dirs tree.old ≡ Some dirs → WroteOf (plan_of rules.now) now (take 4294967295 (tried_directories dirs (plan_of rules.now).pruned (plan_of rules.now).root)) (none_pending (O.held output.old)) (pending_in (O.held output.new)) (P.taken out.old) (P.taken out.new) }
-    ensures follows { OnErr result ((dirs : Dirs) → T.dirs tree.old ≡ Some dirs → (O.held output.new ≡ O.held output.old) × (out.new ≡ out.old) ⊎ LinesFollow (scan_pieces dirs (plan_of rules.now) now) (none_pending (O.held output.old)) (pending_in (O.held output.new)) (P.taken out.old) (P.taken out.new)) }
     ensures scan { IfErr result (λ fault. IsTrue (is_of_scan fault)) }
-    ensures missing { IsErrOf result UpdateFault.RootMissing → (dirs : Dirs) → T.dirs tree.old ≡ Some dirs → get dirs rules.now.root ≡ None }
+    ensures found { IfErr result (λ fault. (dirs : Dirs) → T.dirs tree.old ≡ Some dirs → Found fault rules.now.root dirs) }
+    ensures exceeded { IfErr result (λ fault. (dirs : Dirs) → T.dirs tree.old ≡ Some dirs → Exceeded fault dirs (plan_of rules.now)) }
     ensures lacking { (dirs : Dirs) → T.dirs tree.old ≡ Some dirs → get dirs rules.now.root ≡ None → IsErrOf result UpdateFault.RootMissing ⊎ (IsErrOf result UpdateFault.TreeFault ⊎ IsErrOf result UpdateFault.WriteFault) }
-    ensures unwritten { (dirs : Dirs) → T.dirs tree.old ≡ Some dirs → get dirs rules.now.root ≡ None → IsErrOf result UpdateFault.WriteFault → (O.held output.new ≡ O.held output.old) × (out.new ≡ out.old) }
-    ensures tree_fault { IsErrOf result UpdateFault.TreeFault → Rose (T.faults tree.old) (T.faults tree.new) }
-    ensures write_fault { IsErrOf result UpdateFault.WriteFault → Rose (O.faults output.old) (O.faults output.new) ⊎ IsTrue rules.now.verbose × Rose (P.faults out.old) (P.faults out.new) }
-    ensures many_names { IsErrOf result UpdateFault.TooManyNames → (dirs : Dirs) → T.dirs tree.old ≡ Some dirs → ListsMore dirs 16777216 }
-    ensures wide { IsErrOf result UpdateFault.TooManyNames → (dirs : Dirs) → T.dirs tree.old ≡ Some dirs → HasWide 16777216 (reached dirs (plan_of rules.now).pruned (plan_of rules.now).root) }
-    ensures many_directories { IsErrOf result UpdateFault.TooManyDirectories → (dirs : Dirs) → T.dirs tree.old ≡ Some dirs → 4294967295 < length (tried_directories dirs (plan_of rules.now).pruned (plan_of rules.now).root) }
-    ensures more_directories { IsErrOf result UpdateFault.TooManyDirectories → (dirs : Dirs) → T.dirs tree.old ≡ Some dirs → 4294967295 < length (entries dirs) }
-    ensures stats { (dirs : Dirs) → T.dirs tree.old ≡ Some dirs → T.stats tree.new ≤ T.stats tree.old + priced_candidates dirs (plan_of rules.now).pruned (T.priced tree.old) (plan_of rules.now).root }
-    ensures opened { (dirs : Dirs) → T.dirs tree.old ≡ Some dirs → T.openings tree.new ≤ T.openings tree.old + length (tried_directories dirs (plan_of rules.now).pruned (plan_of rules.now).root) }
+    ensures failures { Failures rules.now.verbose result (T.faults tree.old) (T.faults tree.new) (O.faults output.old) (O.faults output.new) (P.faults out.old) (P.faults out.new) }
+    ensures asked_of { (dirs : Dirs) → T.dirs tree.old ≡ Some dirs → AskedOf dirs (plan_of rules.now) (T.priced tree.old) (T.openings tree.old) (T.openings tree.new) (T.stats tree.old) (T.stats tree.new) }
     ensures openings { T.openings tree.new ≤ T.openings tree.old + 4294967295 }
     ensures quiet { rules.now.verbose ≡ false → out.new ≡ out.old }
     ensures tree_kept { T.kept tree.old tree.new }
     ensures out_kept { P.kept out.old out.new }
-    ensures tree_later { T.faults tree.old ≤ T.faults tree.new }
-    ensures output_later { O.faults output.old ≤ O.faults output.new }
-    ensures out_later { P.faults out.old ≤ P.faults out.new }
 {
     let Ok(()) = output.begin(name) else {
         return Err(UpdateFault::WriteFault);

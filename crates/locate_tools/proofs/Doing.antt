@@ -9,6 +9,7 @@ use Rattle.loc_outside.specs.Snapshot.{Snapshot}
 use Rattle.tool_words.specs.Asked.{Asked, Updatedb, Locate, Convert, Exercise}
 use Rattle.tool_words.specs.Locate.{LocateAsked}
 use Rattle.tool_words.specs.Updatedb.{UpdatedbAsked}
+use Rattle.database_update.specs.Updates.{Around}
 use Rattle.locate_engine.specs.declared.outcome.Outcome.{Outcome}
 use Rattle.locate_tools.specs.declared.answer.Cause.{Cause}
 use Rattle.locate_tools.specs.declared.answer.Cause.TheVariants as causes
@@ -20,7 +21,7 @@ use Rattle.locate_tools.specs.Ran.{LocateRun}
 use Rattle.locate_tools.specs.Standing.{Standing}
 use Rattle.locate_tools.specs.Statuses.{status_of}
 use Rattle.locate_tools.specs.Told.{told}
-use Rattle.locate_tools.specs.Updates.{Around, UpdatedbRun, around_in}
+use Rattle.locate_tools.specs.Updates.{UpdatedbRun, around_in}
 use Rattle.locate_tools.proofs.Runs.{run_nothing}
 use Rattle.locate_tools.proofs.Updating.{run_none}
 

@@ -1,158 +1,109 @@
--- Causes of `updatedb` and faults of an update.
-use Rattle.std.specs.Prelude.{IsTrue}
-use Rattle.std.proofs.Common.{◌≡◌, ℕ, Bool, true, false, List, Option, Some, None, ◌⊎◌, inl, inr, refl, sym, ap, subst, ◌∙◌, arith}
-use Rattle.database_update.specs.declared.settings_file.SettingsFile.TheVariants.{Configuration, Mounts}
+-- Runs of `updatedb`, from what an update does.
+use Rattle.std.specs.Prelude.{IfErr}
+use Rattle.std.proofs.Common.{◌≡◌, ℕ, List, Option, Result, Ok, Err, ◌⊎◌, inl, inr, refl, arith}
+use Rattle.path_order.specs.Stamp.{Moment}
+use Rattle.loc_outside.specs.Held.{Held}
+use Rattle.loc_outside.specs.Trees.{Dirs}
+use Rattle.tool_words.specs.Updatedb.{UpdatedbAsked}
+use Rattle.tree_scan.specs.Plan.{Plan}
+use Rattle.tree_scan.specs.declared.rules.Counts.{Counts}
+use Rattle.database_update.specs.Scans.{Left}
+use Rattle.database_update.specs.Updates.{AfterFault, Around, Bounded, Same, UpdateDoes}
 use Rattle.database_update.specs.declared.fault.UpdateFault.{UpdateFault}
 use Rattle.database_update.specs.declared.fault.UpdateFault.TheVariants as faults
+use Rattle.database_update.proofs.UpdateLemmas.{begins_none, exceeded_none, failures_none, found_none, left_none}
 use Rattle.locate_tools.specs.declared.answer.Cause.{Cause}
 use Rattle.locate_tools.specs.declared.answer.Cause.TheVariants as causes
-use Rattle.path_order.specs.Stamp.{Moment}
-use Rattle.loc_outside.proofs.Parts.{part_none}
-use Rattle.database_update.specs.Faults.{is_from_outside}
-use Rattle.tool_words.specs.Updatedb.{UpdatedbAsked}
-use Rattle.locate_tools.specs.Updates.{AfterFault, Around, Bounded, Caused, EndsFor, Required, Untouched, UpdatedbRun, cause_of}
+use Rattle.locate_tools.specs.Updates.{UpdatedbRun, same_in}
 
--- the fault of an update for which a run ends so, if there is one
-abbrev fault_in : Cause → Option UpdateFault
-fault_in causes.Done = None
-fault_in causes.NoMatch = None
-fault_in causes.Usage = None
-fault_in (causes.BadConf line fault) = Some (faults.BadConf line fault)
-fault_in (causes.BadMount line fault) = Some (faults.BadMount line fault)
-fault_in causes.RootMissing = Some faults.RootMissing
-fault_in (causes.ReadFault file) = Some (faults.ReadFault file)
-fault_in causes.WriteFault = Some faults.WriteFault
-fault_in causes.OutOfMemory = Some faults.OutOfMemory
-fault_in causes.TreeFault = Some faults.TreeFault
-fault_in causes.TooManyNames = Some faults.TooManyNames
-fault_in causes.TooManyDirectories = Some faults.TooManyDirectories
+-- ---- what is just as it was, in other words
 
-fault_back : (f : UpdateFault) → fault_in (cause_of f) ≡ Some f
-fault_back (faults.BadConf line cause) = refl
-fault_back (faults.BadMount line cause) = refl
-fault_back (faults.ReadFault file) = refl
-fault_back faults.RootMissing = refl
-fault_back faults.TreeFault = refl
-fault_back faults.WriteFault = refl
-fault_back faults.TooManyNames = refl
-fault_back faults.TooManyDirectories = refl
-fault_back faults.OutOfMemory = refl
+follows_as : {H S S' L : Type 0} → (S → S') → H × S ⊎ L → H × S' ⊎ L
+follows_as same (inl (held, kept)) = inl (held, same kept)
+follows_as same (inr lines) = inr lines
 
--- a cause is of one fault alone
-same_fault : (f fault : UpdateFault) → cause_of f ≡ cause_of fault → f ≡ fault
-same_fault f fault e = let both : Some f ≡ Some fault = sym (fault_back f) ∙ ap fault_in e ∙ fault_back fault in cc
-
--- what holds of the fault holds of whatever has its cause
-pub of_fault : (f : UpdateFault) (cause : Cause) (P : UpdateFault → Type 0) → cause ≡ cause_of f → P f → (fault : UpdateFault) → cause ≡ cause_of fault → P fault
-of_fault f cause P is fact fault also = subst P (same_fault f fault (sym is ∙ also)) fact
-
--- a cause of no fault
-not_fault : (f : UpdateFault) (cause : Cause) → cause ≡ cause_of f → fault_in cause ≡ None → ⊥
-not_fault f cause is none = let both : Some f ≡ None = sym (fault_back f) ∙ sym (ap fault_in is) ∙ none in absurd cc
-
-pub not_done : (f : UpdateFault) (cause : Cause) → cause ≡ cause_of f → cause ≡ causes.Done → ⊥
-not_done f cause is e = not_fault f cause is (ap fault_in e)
-
-pub not_of_locate : (f : UpdateFault) (cause : Cause) → cause ≡ cause_of f → cause ≡ causes.NoMatch → ⊥
-not_of_locate f cause is e = not_fault f cause is (ap fault_in e)
-
-pub not_of_words : (f : UpdateFault) (cause : Cause) → cause ≡ cause_of f → cause ≡ causes.Usage → ⊥
-not_of_words f cause is e = not_fault f cause is (ap fault_in e)
-
-pub refuses_as : (f fault : UpdateFault) (cause : Cause) → cause ≡ cause_of f → (f ≡ fault) ⊎ ((f ≡ faults.OutOfMemory) ⊎ ((f ≡ faults.ReadFault Configuration) ⊎ (f ≡ faults.ReadFault Mounts)))
-    → (cause ≡ cause_of fault) ⊎ ((cause ≡ causes.OutOfMemory) ⊎ ((cause ≡ causes.ReadFault Configuration) ⊎ (cause ≡ causes.ReadFault Mounts)))
-refuses_as f fault cause is (inl e) = inl (is ∙ ap cause_of e)
-refuses_as f fault cause is (inr (inl e)) = inr (inl (is ∙ ap cause_of e))
-refuses_as f fault cause is (inr (inr (inl e))) = inr (inr (inl (is ∙ ap cause_of e)))
-refuses_as f fault cause is (inr (inr (inr e))) = inr (inr (inr (is ∙ ap cause_of e)))
-
-pub lacks_as : (f : UpdateFault) (cause : Cause) → cause ≡ cause_of f → (f ≡ faults.RootMissing) ⊎ IsTrue (is_from_outside f) → (cause ≡ causes.RootMissing) ⊎ EndsFor cause is_from_outside
-lacks_as f cause is (inl e) = inl (is ∙ ap cause_of e)
-lacks_as f cause is (inr out) = inr (f, is, out)
-
--- a run whose update ended with a fault
-pub faulted : (asked : UpdatedbAsked) (now : Moment) (a a' : Around) (f : UpdateFault) (cause : Cause) → cause ≡ cause_of f
-    → AfterFault asked now a a' f → Caused asked a a' f → Required asked a a' cause → Bounded asked a a' → UpdatedbRun asked now a a' cause
-faulted asked now a a' f cause is after caused required bounded = record {
-  stored = λ e. absurd (not_done f cause is e);
-  after_fault = of_fault f cause (λ fault. AfterFault asked now a a' fault) is after;
-  caused = of_fault f cause (λ fault. Caused asked a a' fault) is caused;
-  required = required;
-  bounded = bounded;
+left_as : (fault : UpdateFault) (name : List ℕ) (now : Moment) (dirs : Dirs) (plan : Plan) (h h' : Option Held) (e e' : Option (List ℕ)) (S S' : Type 0) → (S → S') → Left fault name now dirs plan h h' e e' S → Left fault name now dirs plan h h' e e' S'
+left_as fault name now dirs plan h h' e e' S S' same left = record {
+  leaves = left.leaves;
+  follows = follows_as same left.follows;
+  unwritten = λ was none. let kept = left.unwritten was none in (kept.0, same kept.1);
+  stopped = left.stopped;
 }
 
--- no line before its entry, of what an object has taken
-pub follows_as : {A : Type 0} {o o' : A} {H L : Type 0} (taken : A → Option (List ℕ)) → H × (o' ≡ o) ⊎ L → H × (taken o' ≡ taken o) ⊎ L
-follows_as taken (inl same) = inl (same.0, ap taken same.1)
-follows_as taken (inr lines) = inr lines
+fault_as : (asked : UpdatedbAsked) (now : Moment) (a a' : Around) (s s' : Same) → (s.tree → s'.tree) → (s.output → s'.output) → (s.out → s'.out) → (fault : UpdateFault) → AfterFault asked now a a' s fault → AfterFault asked now a a' s' fault
+fault_as asked now a a' s s' tree output out fault after = record {
+  unstored = after.unstored;
+  left = λ files dirs plan fs ds made. left_as fault asked.output now dirs plan a.held a'.held a.taken a'.taken s.out s'.out out (after.left files dirs plan fs ds made);
+  begins = after.begins;
+  early = λ early. let kept = after.early early in (tree kept.0, output kept.1, out kept.2);
+  empty = λ was. let kept = after.empty was in (kept.0, out kept.1);
+}
 
--- what is passed on where lines are echoed, and what stays where they are not
-pub passed_on_by : (verbose : Bool) (P : Type 0) (held held' : ℕ) → (IsTrue verbose → P → held ≡ 0 → held' ≡ 0) → (verbose ≡ false → held' ≡ held) → P → held ≡ 0 → held' ≡ 0
-passed_on_by true P held held' echoed quiet p out = echoed refl p out
-passed_on_by false P held held' echoed quiet p out = quiet refl ∙ out
+bounded_as : (asked : UpdatedbAsked) (a a' : Around) (s s' : Same) → (s.tree → s'.tree) → (s.output → s'.output) → (s.out → s'.out) → Bounded asked a a' s → Bounded asked a a' s'
+bounded_as asked a a' s s' tree output out b = record {
+  unready = λ files fault fs refused. let kept = b.unready files fault fs refused in (tree kept.0, output kept.1, out kept.2);
+  quiet = λ quiet. out (b.quiet quiet);
+  passed_on = b.passed_on;
+  given = b.given;
+  given_most = b.given_most;
+  conf_alone = b.conf_alone;
+  asked_of = b.asked_of;
+  openings = b.openings;
+  reads_later = b.reads_later;
+}
+
+err_as : (r : Result Counts UpdateFault) (P Q : UpdateFault → Type 0) → ((fault : UpdateFault) → P fault → Q fault) → IfErr r P → IfErr r Q
+err_as (Ok counts) P Q f h = tt
+err_as (Err fault) P Q f h = f fault h
+
+pub does_as : (asked : UpdatedbAsked) (now : Moment) (a a' : Around) (s s' : Same) (r : Result Counts UpdateFault) → (s.tree → s'.tree) → (s.output → s'.output) → (s.out → s'.out) → UpdateDoes asked now a a' s r → UpdateDoes asked now a a' s' r
+does_as asked now a a' s s' r tree output out does = record {
+  stored = does.stored;
+  after_fault = err_as r _ _ (fault_as asked now a a' s s' tree output out) does.after_fault;
+  caused = does.caused;
+  required = does.required;
+  failures = does.failures;
+  bounded = bounded_as asked a a' s s' tree output out does.bounded;
+}
 
 -- ---- where there was no memory for the words, nothing was done
 
-untouched : (a : Around) → Untouched a a
-untouched a = record { openings = refl; stats = refl; tree_failed = refl; held = refl; begins = refl; output_failed = refl; taken = refl; held_back = refl; writes_failed = refl }
-
-after_none : (asked : UpdatedbAsked) (now : Moment) (a : Around) → AfterFault asked now a a faults.OutOfMemory
-after_none asked now a = record {
-  unstored = refl;
-  leaves = λ files dirs plan f d p. inl refl;
-  echo_part = λ files dirs plan f d p. part_none a.taken _;
-  begins = inl refl;
-  follows = λ files dirs plan f d p. inl (refl, refl);
-  early = λ soon. absurd cc;
-  empty = λ e. absurd cc;
-  unwritten = λ e. absurd cc;
-  stops = λ e. absurd cc;
-  stops_wide = λ e. absurd cc;
-  stops_full = λ e. absurd cc;
-  whole_directories = λ e. absurd cc;
-}
-
-caused_none : (asked : UpdatedbAsked) (a : Around) → Caused asked a a faults.OutOfMemory
-caused_none asked a = record {
-  refused = λ soon. absurd cc;
-  memory = refl;
-  read_fault = λ file e. absurd cc;
-  in_hand = λ e. absurd cc;
-  missing = λ e. absurd cc;
-  tree_fault = λ e. absurd cc;
-  write_fault = λ e. absurd cc;
-  wide_reached = λ e. absurd cc;
-  wide_there = λ e. absurd cc;
-  many_tried = λ e. absurd cc;
-  many_there = λ e. absurd cc;
-}
-
-required_none : (asked : UpdatedbAsked) (a : Around) → Required asked a a causes.OutOfMemory
-required_none asked a = record {
-  refuses = λ files fault known no. inr (inl refl);
-  lacking = λ files dirs plan f d p gone. lacks_as faults.OutOfMemory causes.OutOfMemory refl (inr refl);
-  complete = λ files dirs plan f d p root narrow few reads trees outputs writes. inr refl;
-  of_locate = λ e. absurd cc;
-  of_words = λ e. absurd cc;
-}
-
-bounded_none : (asked : UpdatedbAsked) (a : Around) → Bounded asked a a
-bounded_none asked a = record {
-  unready = λ files fault known no. untouched a;
-  quiet = λ e. (refl, refl, refl);
-  passed_on = λ none out. out;
-  given = omega arith;
-  given_most = λ files known. omega arith;
-  conf_alone = λ files fault known no. omega arith;
-  opened = λ files dirs plan f d p. omega arith;
-  openings = omega arith;
-  stats = λ files dirs plan f d p. omega arith;
-  reads_later = omega arith;
-  tree_later = omega arith;
-  output_later = omega arith;
-  writes_later = omega arith;
+does_none : (asked : UpdatedbAsked) (now : Moment) (a : Around) → UpdateDoes asked now a a (same_in a a) (Err faults.OutOfMemory)
+does_none asked now a = record {
+  stored = tt;
+  after_fault = record {
+    unstored = refl;
+    left = λ files dirs plan fs ds made. left_none faults.OutOfMemory asked.output now dirs plan a.held a.taken _ refl (refl, refl, refl);
+    begins = begins_none faults.OutOfMemory a.begins refl;
+    early = λ early. absurd cc;
+    empty = λ was. absurd cc;
+  };
+  caused = record {
+    refused = λ refused. absurd cc;
+    memory = refl;
+    read_fault = λ file was. absurd cc;
+    in_hand = λ was. absurd cc;
+    found = λ dirs ds. found_none faults.OutOfMemory asked.root dirs refl;
+    exceeded = λ files dirs plan fs ds made. exceeded_none faults.OutOfMemory dirs plan refl;
+  };
+  required = record {
+    refuses = λ files fault fs refused. inr (inl refl);
+    lacking = λ files dirs plan fs ds made gone. inr refl;
+    complete = λ files dirs plan fs ds made there narrow few reads trees outputs writes. refl;
+  };
+  failures = failures_none asked.verbose faults.OutOfMemory a.tree_failed a.output_failed a.writes_failed refl;
+  bounded = record {
+    unready = λ files fault fs refused. ((refl, refl, refl), (refl, refl, refl), (refl, refl, refl));
+    quiet = λ quiet. (refl, refl, refl);
+    passed_on = λ none out. out;
+    given = omega arith;
+    given_most = λ files fs. omega arith;
+    conf_alone = λ files fault fs refused. omega arith;
+    asked_of = λ files dirs plan fs ds made. record { opened = omega arith; stats = omega arith };
+    openings = omega arith;
+    reads_later = omega arith;
+  };
 }
 
 pub run_none : (asked : UpdatedbAsked) (now : Moment) (a : Around) (cause : Cause) → cause ≡ causes.OutOfMemory → UpdatedbRun asked now a a cause
-run_none asked now a cause is = subst (λ (c : Cause). UpdatedbRun asked now a a c) (sym is)
-    (faulted asked now a a faults.OutOfMemory causes.OutOfMemory refl (after_none asked now a) (caused_none asked a) (required_none asked a) (bounded_none asked a))
+run_none asked now a cause is = record { result = Err faults.OutOfMemory; ended = is; does = does_none asked now a }

@@ -1,94 +1,78 @@
-use Rattle.std.proofs.Common.{[], true, ◌≡◌, ◌≤◌, ◌+◌, ◌^◌, ◌⊎◌, length, option_map, take}
-use Rattle.std.specs.Io.KnownBytes.{Appends}
-use Rattle.loc_outside.specs.Outside.{AppendsPart}
-use Rattle.tool_words.specs.UpdatedbSeen.{seen}
-use Rattle.tree_scan.specs.Blocks.{scan_pieces, scan_text, echo_text}
+use Rattle.std.proofs.Common.{ap, refl, arith, Err}
 use Rattle.tree_scan.specs.Plans.{plan_of}
-use Rattle.tree_scan.specs.Reach.{reached, tried}
-use Rattle.tree_scan.specs.Walks.{LinesFollow, Narrow, StopsAt, StopsAtWide, StopsWide, Whole, WroteOf}
-use Rattle.database_update.specs.Holding.{none_pending, pending_in, with_file}
-use Rattle.database_update.proofs.MemoryLemmas.{scan_tells_memory}
-use Rattle.database_update.proofs.ToldLemmas.{told_by, told_err, told_ok}
+use Rattle.database_update.proofs.UpdateLemmas.{begins_none, exceeded_none, failures_none, found_none, left_none, memory_early, no_root, outside_early, refuses_early, went}
 use Rattle.database_update.proofs.updating.update.Goals as goal
 
-pub returns-clause-stored : goal.returns-clause-stored
-returns-clause-stored g c =
-    told_ok c.store.result (g.R.Reader.files c.args.reader.now) (g.T.Tree.dirs c.args.tree.now) (seen c.args.asked.now) (plan_of c.in-Ok.rules)
-    (λ dirs plan. g.O.Output.held c.store.new.output ≡ option_map (with_file c.args.asked.now.output.now (scan_text dirs plan c.args.now)) (g.O.Output.held c.args.output.now))
-    c.in-Ok.ensures.accepted c.store.ensures.stored
+pub returns-in-Err-clause-does : goal.returns-in-Err-clause-does
+returns-in-Err-clause-does g c =
+    let f = c.in-Err.fault in
+    let said = c.in-Err.ensures in
+    record {
+      stored = tt;
+      after_fault = record {
+        unstored = refl;
+        left = λ files dirs plan fs ds made. left_none f _ c.args.now dirs plan _ _ _ said.settings refl;
+        begins = begins_none f _ said.settings;
+        early = λ early. (refl, refl, refl);
+        empty = λ was. no_root f said.settings was;
+      };
+      caused = record {
+        refused = said.refused;
+        memory = said.memory;
+        read_fault = λ file was. said.fault file (ap Err was);
+        in_hand = λ was. said.in_hand (ap Err was);
+        found = λ dirs ds. found_none f _ dirs said.settings;
+        exceeded = λ files dirs plan fs ds made. exceeded_none f dirs plan said.settings;
+      };
+      required = record {
+        refuses = λ files fault fs refused. refuses_early f fault _ said.settings (λ so. said.refused so files fs) refused;
+        lacking = λ files dirs plan fs ds made gone. outside_early f plan _ said.settings (λ so. said.refused so files fs) made;
+        complete = λ files dirs plan fs ds made there narrow few reads trees outputs writes.
+            memory_early f plan _ _ said.settings (λ so. said.refused so files fs) made (λ file was. said.fault file (ap Err was)) reads;
+      };
+      failures = failures_none _ f _ _ _ said.settings;
+      bounded = record {
+        unready = λ files fault fs refused. (refl, refl, refl);
+        quiet = λ quiet. refl;
+        passed_on = λ none held. held;
+        given = said.given;
+        given_most = said.given_most;
+        conf_alone = said.conf_alone;
+        asked_of = λ files dirs plan fs ds made. record { opened = omega arith; stats = omega arith };
+        openings = omega arith;
+        reads_later = said.later;
+      };
+    }
 
-pub returns-clause-echoed : goal.returns-clause-echoed
-returns-clause-echoed g c =
-    told_ok c.store.result (g.R.Reader.files c.args.reader.now) (g.T.Tree.dirs c.args.tree.now) (seen c.args.asked.now) (plan_of c.in-Ok.rules)
-    (λ dirs plan. Appends (g.P.Sink.taken c.args.out.now) (g.P.Sink.taken c.store.new.out) (echo_text dirs plan))
-    c.in-Ok.ensures.accepted c.store.ensures.echoed
-
-pub returns-clause-few : goal.returns-clause-few
-returns-clause-few g c =
-    told_ok c.store.result (g.R.Reader.files c.args.reader.now) (g.T.Tree.dirs c.args.tree.now) (seen c.args.asked.now) (plan_of c.in-Ok.rules)
-    (λ dirs plan. length (tried dirs plan.pruned plan.root) ≤ 4294967295)
-    c.in-Ok.ensures.accepted c.store.ensures.few
-
-pub returns-clause-echo_part : goal.returns-clause-echo_part
-returns-clause-echo_part g c =
-    told_err c.store.result (g.R.Reader.files c.args.reader.now) (g.T.Tree.dirs c.args.tree.now) (seen c.args.asked.now) (plan_of c.in-Ok.rules)
-    (λ dirs plan. AppendsPart (g.P.Sink.taken c.args.out.now) (g.P.Sink.taken c.store.new.out) (echo_text dirs plan))
-    c.in-Ok.ensures.accepted c.store.ensures.echo_part
-
-pub returns-clause-whole_tree : goal.returns-clause-whole_tree
-returns-clause-whole_tree g c = λ was.
-    told_by (g.R.Reader.files c.args.reader.now) (g.T.Tree.dirs c.args.tree.now) (seen c.args.asked.now) (plan_of c.in-Ok.rules)
-    (λ dirs plan. Whole dirs plan c.args.now (none_pending (g.O.Output.held c.args.output.now)) (pending_in (g.O.Output.held c.store.new.output)) (g.P.Sink.taken c.args.out.now) (g.P.Sink.taken c.store.new.out))
-    c.in-Ok.ensures.accepted (c.store.ensures.whole_tree was)
-
-pub returns-clause-whole_names : goal.returns-clause-whole_names
-returns-clause-whole_names g c = λ was.
-    told_by (g.R.Reader.files c.args.reader.now) (g.T.Tree.dirs c.args.tree.now) (seen c.args.asked.now) (plan_of c.in-Ok.rules)
-    (λ dirs plan. StopsAtWide dirs plan c.args.now 16777216 (none_pending (g.O.Output.held c.args.output.now)) (pending_in (g.O.Output.held c.store.new.output)) (g.P.Sink.taken c.args.out.now) (g.P.Sink.taken c.store.new.out))
-    c.in-Ok.ensures.accepted (c.store.ensures.whole_names was)
-
-pub returns-clause-whole_directories : goal.returns-clause-whole_directories
-returns-clause-whole_directories g c = λ was.
-    told_by (g.R.Reader.files c.args.reader.now) (g.T.Tree.dirs c.args.tree.now) (seen c.args.asked.now) (plan_of c.in-Ok.rules)
-    (λ dirs plan. WroteOf plan c.args.now (take 4294967295 (tried dirs plan.pruned plan.root)) (none_pending (g.O.Output.held c.args.output.now)) (pending_in (g.O.Output.held c.store.new.output)) (g.P.Sink.taken c.args.out.now) (g.P.Sink.taken c.store.new.out))
-    c.in-Ok.ensures.accepted (c.store.ensures.whole_directories was)
-
-pub returns-clause-narrow : goal.returns-clause-narrow
-returns-clause-narrow g c =
-    told_ok c.store.result (g.R.Reader.files c.args.reader.now) (g.T.Tree.dirs c.args.tree.now) (seen c.args.asked.now) (plan_of c.in-Ok.rules)
-    (λ dirs plan. Narrow 16777216 (reached dirs plan.pruned plan.root))
-    c.in-Ok.ensures.accepted c.store.ensures.narrow
-
-pub returns-clause-exact : goal.returns-clause-exact
-returns-clause-exact g c =
-    told_ok c.store.result (g.R.Reader.files c.args.reader.now) (g.T.Tree.dirs c.args.tree.now) (seen c.args.asked.now) (plan_of c.in-Ok.rules)
-    (λ dirs plan. g.T.Tree.openings c.args.tree.now ≤ 2 ^ 63 → g.T.Tree.openings c.store.new.tree ≡ g.T.Tree.openings c.args.tree.now + length (tried dirs plan.pruned plan.root))
-    c.in-Ok.ensures.accepted c.store.ensures.exact
-
-pub returns-clause-stops : goal.returns-clause-stops
-returns-clause-stops g c = λ was.
-    told_by (g.R.Reader.files c.args.reader.now) (g.T.Tree.dirs c.args.tree.now) (seen c.args.asked.now) (plan_of c.in-Ok.rules)
-    (λ dirs plan. StopsAt [] 16777216 4294967295 dirs plan c.args.now (none_pending (g.O.Output.held c.args.output.now)) (pending_in (g.O.Output.held c.store.new.output)) (g.P.Sink.taken c.args.out.now) (g.P.Sink.taken c.store.new.out))
-    c.in-Ok.ensures.accepted (c.store.ensures.stops was)
-
-pub returns-clause-stops_wide : goal.returns-clause-stops_wide
-returns-clause-stops_wide g c = λ was.
-    told_by (g.R.Reader.files c.args.reader.now) (g.T.Tree.dirs c.args.tree.now) (seen c.args.asked.now) (plan_of c.in-Ok.rules)
-    (λ dirs plan. StopsWide [] 16777216 4294967295 true dirs plan c.args.now (none_pending (g.O.Output.held c.args.output.now)) (pending_in (g.O.Output.held c.store.new.output)) (g.P.Sink.taken c.args.out.now) (g.P.Sink.taken c.store.new.out))
-    c.in-Ok.ensures.accepted (c.store.ensures.stops_wide was)
-
-pub returns-clause-stops_full : goal.returns-clause-stops_full
-returns-clause-stops_full g c = λ was.
-    told_by (g.R.Reader.files c.args.reader.now) (g.T.Tree.dirs c.args.tree.now) (seen c.args.asked.now) (plan_of c.in-Ok.rules)
-    (λ dirs plan. StopsAt [] 16777216 4294967295 dirs plan c.args.now (none_pending (g.O.Output.held c.args.output.now)) (pending_in (g.O.Output.held c.store.new.output)) (g.P.Sink.taken c.args.out.now) (g.P.Sink.taken c.store.new.out))
-    c.in-Ok.ensures.accepted (c.store.ensures.stops_full was)
-
-pub returns-clause-memory : goal.returns-clause-memory
-returns-clause-memory g c = scan_tells_memory c.store.result c.store.ensures.scan
-
-pub returns-clause-follows : goal.returns-clause-follows
-returns-clause-follows g c =
-    told_err c.store.result (g.R.Reader.files c.args.reader.now) (g.T.Tree.dirs c.args.tree.now) (seen c.args.asked.now) (plan_of c.in-Ok.rules)
-    (λ dirs plan. (g.O.Output.held c.store.new.output ≡ g.O.Output.held c.args.output.now) × (c.store.new.out ≡ c.args.out.now)
-    ⊎ LinesFollow (scan_pieces dirs plan c.args.now) (none_pending (g.O.Output.held c.args.output.now)) (pending_in (g.O.Output.held c.store.new.output)) (g.P.Sink.taken c.args.out.now) (g.P.Sink.taken c.store.new.out))
-    c.in-Ok.ensures.accepted c.store.ensures.follows
+pub returns-clause-does : goal.returns-clause-does
+returns-clause-does g c =
+    let read = c.in-Ok.ensures in
+    let did = c.store.ensures in
+    went _ _ _ _ _ (plan_of c.in-Ok.rules) _ (record {
+      accepted = read.accepted;
+      root = read.ruled.0;
+      verbose = read.ruled.1;
+      read_once = read.given_whole;
+      given = read.given;
+      given_most = read.given_most;
+      conf_alone = read.conf_alone;
+      reads_later = read.later;
+      stored = did.stored;
+      completed = did.completed;
+      begun = did.begun;
+      flushed = did.flushed;
+      unstored = did.unstored;
+      left = did.left;
+      begins = did.begins;
+      held_back = did.held_back;
+      empty = did.empty;
+      scan = did.scan;
+      found = did.found;
+      exceeded = did.exceeded;
+      lacking = did.lacking;
+      failures = did.failures;
+      asked_of = did.asked_of;
+      openings = did.openings;
+      quiet = did.quiet;
+      same_held = λ same. ap g.P.BufferedSink.held_back same;
+    })

@@ -55,7 +55,7 @@ returns-in-Updatedb-clause-does g c =
     does_by c.args.call.now _ c.run_updatedb.result _ _
     (works_updatedb _ (updatedb_seen c.in-Updatedb.asked) _ _ _ _ asks (record { run = rw c.moment.ensures at said.run; accepted = said.usage; outcomes = said.outcomes }))
     (said.status ∙ ap (λ (t : Option Tool). status_of t c.run_updatedb.result.cause) (sym (tool_of_updatedb _ _ asks)))
-    (told_updatedb _ _ c.run_updatedb.result.cause asks ∙ told_by c.args.call.now _ c.run_updatedb.result.outcomes _ c.run_updatedb.result.cause said.outcomes refl) said.told said.told_part said.run.bounded.passed_on said.files said.err_later
+    (told_updatedb _ _ c.run_updatedb.result.cause asks ∙ told_by c.args.call.now _ c.run_updatedb.result.outcomes _ c.run_updatedb.result.cause said.outcomes refl) said.told said.told_part said.run.does.bounded.passed_on said.files said.err_later
 
 pub returns-in-Updatedb-clause-leaves : goal.returns-in-Updatedb-clause-leaves
 returns-in-Updatedb-clause-leaves g c =

@@ -1,0 +1,331 @@
+-- What an update does, by where it ended: while it read its settings, or afterwards.
+use Rattle.std.specs.Prelude.{IfErr, IsErrAnd, IsErrOf, IsOk, IsSome, IsTrue, OnErr, OnOk}
+use Rattle.std.proofs.Common.{◌≡◌, ◌≤◌, ◌<◌, ◌⊎◌, ◌+◌, ℕ, Bool, true, false, List, [], length, Option, Some, None, Result, Ok, Err, inl, inr, refl, sym, ap, subst, ◌∙◌, arith}
+use Rattle.std.specs.FinMap.{entries, get}
+use Rattle.std.specs.Option.{option_map}
+use Rattle.path_order.specs.Stamp.{Moment}
+use Rattle.loc_outside.specs.Causes.{Rose, raised}
+use Rattle.loc_outside.specs.Files.{Files}
+use Rattle.loc_outside.specs.Held.{Held}
+use Rattle.loc_outside.specs.Trees.{Dir, Dirs}
+use Rattle.loc_outside.proofs.Parts.{part_none}
+use Rattle.tool_words.specs.Updatedb.{UpdatedbAsked}
+use Rattle.tree_scan.specs.declared.rules.Counts.{Counts}
+use Rattle.tree_scan.specs.Blocks.{scan_text}
+use Rattle.tree_scan.specs.Plan.{Plan}
+use Rattle.tree_scan.specs.Reach.{reached, tried}
+use Rattle.tree_scan.specs.Walks.{HasWide, Narrow}
+use Rattle.database_update.specs.declared.settings_file.SettingsFile.{SettingsFile}
+use Rattle.database_update.specs.declared.settings_file.SettingsFile.TheVariants.{Configuration, Mounts}
+use Rattle.database_update.specs.declared.fault.UpdateFault.{UpdateFault}
+use Rattle.database_update.specs.declared.fault.UpdateFault.TheVariants.{BadConf, BadMount, ReadFault, RootMissing, TreeFault, WriteFault, TooManyNames, TooManyDirectories, OutOfMemory}
+use Rattle.database_update.specs.Faults.{is_early, is_from_outside, is_of_scan, is_of_settings, is_refusal}
+use Rattle.database_update.specs.Holding.{Begins, Leaves, stored_in, with_file, with_pending}
+use Rattle.database_update.specs.Scans.{AskedOf, Completed, Exceeded, Failures, Found, Left}
+use Rattle.database_update.specs.Settings.{conf_in, plan_in}
+use Rattle.database_update.specs.SettingsFiles.{both_read, name_of, read_most}
+use Rattle.database_update.specs.Updates.{AfterFault, Around, Bounded, Caused, Required, Same, Stored, UpdateDoes}
+use Rattle.database_update.proofs.MemoryLemmas.{scan_hides_none}
+use Rattle.database_update.proofs.ToldLemmas.{told_by}
+
+-- ---- by what was answered
+
+pub on_ok_by : {T E : Type 0} (r : Result T E) (P : Type 0) → ((x : T) → r ≡ Ok x → P) → OnOk r P
+on_ok_by (Ok x) P h = h x refl
+on_ok_by (Err e) P h = tt
+
+pub if_err_by : {T E : Type 0} (r : Result T E) (P : E → Type 0) → ((e : E) → r ≡ Err e → P e) → IfErr r P
+if_err_by (Ok x) P h = tt
+if_err_by (Err e) P h = h e refl
+
+pub at_ok : {T E : Type 0} (r : Result T E) (x : T) (P : Type 0) → r ≡ Ok x → OnOk r P → P
+at_ok {T} {E} r x P is h = subst (λ (q : Result T E). OnOk q P) is h
+
+pub at_err : {T E : Type 0} (r : Result T E) (e : E) (P : Type 0) → r ≡ Err e → OnErr r P → P
+at_err {T} {E} r e P is h = subst (λ (q : Result T E). OnErr q P) is h
+
+pub with_err : {T E : Type 0} (r : Result T E) (e : E) (P : E → Type 0) → r ≡ Err e → IfErr r P → P e
+with_err {T} {E} r e P is h = subst (λ (q : Result T E). IfErr q P) is h
+
+pub ok_is : {T E : Type 0} (r : Result T E) (x : T) → r ≡ Ok x → IsOk r
+ok_is {T} {E} r x is = subst (λ (q : Result T E). IsOk q) (sym is) refl
+
+-- ---- while it read its settings
+
+-- no fault of another kind
+other : (kind : UpdateFault → Bool) (f x : UpdateFault) (P : Type 0) → IsTrue (kind f) → f ≡ x → kind x ≡ false → P
+other kind f x P so is not = let both : kind f ≡ kind x = ap kind is in absurd cc
+
+pub leaves_none : (f : UpdateFault) (name text : List ℕ) (h : Option Held) → IsTrue (is_of_settings f) → Leaves f name text h h
+leaves_none (BadConf line cause) name text h so = refl
+leaves_none (BadMount line cause) name text h so = refl
+leaves_none (ReadFault file) name text h so = refl
+leaves_none RootMissing name text h so = absurd cc
+leaves_none TreeFault name text h so = absurd cc
+leaves_none WriteFault name text h so = absurd cc
+leaves_none TooManyNames name text h so = absurd cc
+leaves_none TooManyDirectories name text h so = absurd cc
+leaves_none OutOfMemory name text h so = inl refl
+
+pub begins_none : (f : UpdateFault) (n : ℕ) → IsTrue (is_of_settings f) → Begins f n n
+begins_none (BadConf line cause) n so = refl
+begins_none (BadMount line cause) n so = refl
+begins_none (ReadFault file) n so = refl
+begins_none RootMissing n so = absurd cc
+begins_none TreeFault n so = absurd cc
+begins_none WriteFault n so = absurd cc
+begins_none TooManyNames n so = absurd cc
+begins_none TooManyDirectories n so = absurd cc
+begins_none OutOfMemory n so = inl refl
+
+pub left_none : (f : UpdateFault) (name : List ℕ) (now : Moment) (dirs : Dirs) (plan : Plan) (h : Option Held) (e : Option (List ℕ)) (same : Type 0) → IsTrue (is_of_settings f) → same → Left f name now dirs plan h h e e same
+left_none f name now dirs plan h e same so kept = record {
+  leaves = leaves_none f name _ h so;
+  follows = inl (refl, kept);
+  unwritten = λ was none. (refl, kept);
+  stopped = record {
+    echo_part = part_none e _;
+    whole_tree = λ was. other is_of_settings f _ _ so was refl;
+    stops = λ was. other is_of_settings f _ _ so was refl;
+    whole_names = λ was. other is_of_settings f _ _ so was refl;
+    stops_wide = λ was. other is_of_settings f _ _ so was refl;
+    whole_directories = λ was. other is_of_settings f _ _ so was refl;
+    stops_full = λ was. other is_of_settings f _ _ so was refl;
+  };
+}
+
+pub no_root : {P : Type 0} (f : UpdateFault) → IsTrue (is_of_settings f) → f ≡ RootMissing → P
+no_root {P} f so was = other is_of_settings f RootMissing P so was refl
+
+pub found_none : (f : UpdateFault) (root : List ℕ) (dirs : Dirs) → IsTrue (is_of_settings f) → Found f root dirs
+found_none f root dirs so = record {
+  missing = λ was. other is_of_settings f _ _ so was refl;
+  wide_there = λ was. other is_of_settings f _ _ so was refl;
+  many_there = λ was. other is_of_settings f _ _ so was refl;
+}
+
+pub exceeded_none : (f : UpdateFault) (dirs : Dirs) (plan : Plan) → IsTrue (is_of_settings f) → Exceeded f dirs plan
+exceeded_none f dirs plan so = record {
+  wide_reached = λ was. other is_of_settings f _ _ so was refl;
+  many_tried = λ was. other is_of_settings f _ _ so was refl;
+}
+
+err_is : (f x : UpdateFault) → IsErrOf {T = Counts} {E = UpdateFault} (Err f) x → f ≡ x
+err_is f x e = cc
+
+pub failures_none : (verbose : Bool) (f : UpdateFault) (t o p : ℕ) → IsTrue (is_of_settings f) → Failures verbose (Err f) t t o o p p
+failures_none verbose f t o p so = record {
+  tree_later = omega arith;
+  output_later = omega arith;
+  out_later = omega arith;
+  tree_fault = λ was. other is_of_settings f _ _ so (err_is f TreeFault was) refl;
+  write_fault = λ was. other is_of_settings f _ _ so (err_is f WriteFault was) refl;
+}
+
+-- which answers there must be
+pub refuses_early : (f fault : UpdateFault) (p : Result Plan UpdateFault) → IsTrue (is_of_settings f) → (IsTrue (is_refusal f) → p ≡ Err f) → p ≡ Err fault
+    → (f ≡ fault) ⊎ ((f ≡ OutOfMemory) ⊎ ((f ≡ ReadFault Configuration) ⊎ (f ≡ ReadFault Mounts)))
+refuses_early (BadConf line cause) fault p so refused gives = let is : p ≡ Err (BadConf line cause) = refused refl in inl cc
+refuses_early (BadMount line cause) fault p so refused gives = let is : p ≡ Err (BadMount line cause) = refused refl in inl cc
+refuses_early (ReadFault Configuration) fault p so refused gives = inr (inr (inl refl))
+refuses_early (ReadFault Mounts) fault p so refused gives = inr (inr (inr refl))
+refuses_early RootMissing fault p so refused gives = absurd cc
+refuses_early TreeFault fault p so refused gives = absurd cc
+refuses_early WriteFault fault p so refused gives = absurd cc
+refuses_early TooManyNames fault p so refused gives = absurd cc
+refuses_early TooManyDirectories fault p so refused gives = absurd cc
+refuses_early OutOfMemory fault p so refused gives = inr (inl refl)
+
+pub outside_early : (f : UpdateFault) (plan : Plan) (p : Result Plan UpdateFault) → IsTrue (is_of_settings f) → (IsTrue (is_refusal f) → p ≡ Err f) → p ≡ Ok plan → (f ≡ RootMissing) ⊎ IsTrue (is_from_outside f)
+outside_early (BadConf line cause) plan p so refused made = let is : p ≡ Err (BadConf line cause) = refused refl in absurd cc
+outside_early (BadMount line cause) plan p so refused made = let is : p ≡ Err (BadMount line cause) = refused refl in absurd cc
+outside_early (ReadFault file) plan p so refused made = inr refl
+outside_early RootMissing plan p so refused made = inl refl
+outside_early TreeFault plan p so refused made = inr refl
+outside_early WriteFault plan p so refused made = inr refl
+outside_early TooManyNames plan p so refused made = absurd cc
+outside_early TooManyDirectories plan p so refused made = absurd cc
+outside_early OutOfMemory plan p so refused made = inr refl
+
+pub memory_early : (f : UpdateFault) (plan : Plan) (p : Result Plan UpdateFault) (P : Type 0) → IsTrue (is_of_settings f) → (IsTrue (is_refusal f) → p ≡ Err f) → p ≡ Ok plan → ((file : SettingsFile) → f ≡ ReadFault file → P) → (P → ⊥) → f ≡ OutOfMemory
+memory_early (BadConf line cause) plan p P so refused made read none = let is : p ≡ Err (BadConf line cause) = refused refl in absurd cc
+memory_early (BadMount line cause) plan p P so refused made read none = let is : p ≡ Err (BadMount line cause) = refused refl in absurd cc
+memory_early (ReadFault file) plan p P so refused made read none = absurd (none (read file refl))
+memory_early RootMissing plan p P so refused made read none = absurd cc
+memory_early TreeFault plan p P so refused made read none = absurd cc
+memory_early WriteFault plan p P so refused made read none = absurd cc
+memory_early TooManyNames plan p P so refused made read none = absurd cc
+memory_early TooManyDirectories plan p P so refused made read none = absurd cc
+memory_early OutOfMemory plan p P so refused made read none = refl
+
+-- ---- afterwards
+
+pub not_early : {P : Type 0} (f : UpdateFault) → IsTrue (is_of_scan f) → IsTrue (is_early f) → P
+not_early (BadConf line cause) so early = absurd cc
+not_early (BadMount line cause) so early = absurd cc
+not_early (ReadFault file) so early = absurd cc
+not_early RootMissing so early = absurd cc
+not_early TreeFault so early = absurd cc
+not_early WriteFault so early = absurd cc
+not_early TooManyNames so early = absurd cc
+not_early TooManyDirectories so early = absurd cc
+not_early OutOfMemory so early = absurd cc
+
+refusal_early : (f : UpdateFault) → IsTrue (is_refusal f) → IsTrue (is_early f)
+refusal_early (BadConf line cause) so = refl
+refusal_early (BadMount line cause) so = refl
+refusal_early (ReadFault file) so = refl
+refusal_early RootMissing so = absurd cc
+refusal_early TreeFault so = absurd cc
+refusal_early WriteFault so = absurd cc
+refusal_early TooManyNames so = absurd cc
+refusal_early TooManyDirectories so = absurd cc
+refusal_early OutOfMemory so = absurd cc
+
+pub not_refused : {P : Type 0} (f : UpdateFault) → IsTrue (is_of_scan f) → IsTrue (is_refusal f) → P
+not_refused f so refusal = not_early f so (refusal_early f refusal)
+
+pub not_read : {P : Type 0} (f : UpdateFault) (file : SettingsFile) → IsTrue (is_of_scan f) → f ≡ ReadFault file → P
+not_read {P} f file so was = other is_of_scan f (ReadFault file) P so was refl
+
+pub not_both : {P : Type 0} (p : Result Plan UpdateFault) (plan : Plan) (fault : UpdateFault) → p ≡ Ok plan → p ≡ Err fault → P
+not_both p plan fault made refused = absurd cc
+
+pub lacks_late : (r : Result Counts UpdateFault) → IsErrOf r RootMissing ⊎ (IsErrOf r TreeFault ⊎ IsErrOf r WriteFault) → IsErrAnd r (λ fault. (fault ≡ RootMissing) ⊎ IsTrue (is_from_outside fault))
+lacks_late r (inl is) = subst (λ (q : Result Counts UpdateFault). IsErrAnd q (λ fault. (fault ≡ RootMissing) ⊎ IsTrue (is_from_outside fault))) (sym is) (inl refl)
+lacks_late r (inr (inl is)) = subst (λ (q : Result Counts UpdateFault). IsErrAnd q (λ fault. (fault ≡ RootMissing) ⊎ IsTrue (is_from_outside fault))) (sym is) (inr refl)
+lacks_late r (inr (inr is)) = subst (λ (q : Result Counts UpdateFault). IsErrAnd q (λ fault. (fault ≡ RootMissing) ⊎ IsTrue (is_from_outside fault))) (sym is) (inr refl)
+
+narrow_not_wide : (limit : ℕ) (es : List (List ℕ × Dir)) → Narrow limit es → HasWide limit es → ⊥
+narrow_not_wide limit es narrow wide =
+    let x : List ℕ × Dir = (wide.path, wide.dir) in
+    let small : length (entries wide.dir.names) ≤ limit = subst (λ (e : List ℕ × Dir). length (entries e.1.names) ≤ limit) wide.there.2 (narrow wide.there.0 x wide.there.1) in
+    let more : limit < length (entries wide.dir.names) = wide.longer in
+    omega arith
+
+both_written : {A B V : Type 0} → (A → ⊥) → (V → B → ⊥) → A ⊎ V × B → ⊥
+both_written no_a no_b (inl a) = no_a a
+both_written no_a no_b (inr (v, b)) = no_b v b
+
+-- where nothing is in the way, a fault of the scan is that memory ran out
+pub memory_late : (f : UpdateFault) (dirs : Dirs) (plan : Plan) (verbose : Bool) (t t' o o' p p' : ℕ) → IsTrue (is_of_scan f) → Found f plan.root dirs → Exceeded f dirs plan → Failures verbose (Err f) t t' o o' p p'
+    → IsSome (get dirs plan.root) → Narrow 16777216 (reached dirs plan.pruned plan.root) → length (tried dirs plan.pruned plan.root) ≤ 4294967295
+    → (Rose t t' → ⊥) → (Rose o o' → ⊥) → (IsTrue verbose → Rose p p' → ⊥) → f ≡ OutOfMemory
+memory_late (BadConf line cause) dirs plan verbose t t' o o' p p' so found exceeded failed there narrow few no_t no_o no_p = absurd cc
+memory_late (BadMount line cause) dirs plan verbose t t' o o' p p' so found exceeded failed there narrow few no_t no_o no_p = absurd cc
+memory_late (ReadFault file) dirs plan verbose t t' o o' p p' so found exceeded failed there narrow few no_t no_o no_p = absurd cc
+memory_late RootMissing dirs plan verbose t t' o o' p p' so found exceeded failed there narrow few no_t no_o no_p = let gone : get dirs plan.root ≡ None = found.missing refl in
+    let both : IsSome {T = Dir} None = subst IsSome gone there in absurd cc
+memory_late TreeFault dirs plan verbose t t' o o' p p' so found exceeded failed there narrow few no_t no_o no_p = absurd (no_t (failed.tree_fault refl))
+memory_late WriteFault dirs plan verbose t t' o o' p p' so found exceeded failed there narrow few no_t no_o no_p = absurd (both_written no_o no_p (failed.write_fault refl))
+memory_late TooManyNames dirs plan verbose t t' o o' p p' so found exceeded failed there narrow few no_t no_o no_p = absurd (narrow_not_wide 16777216 (reached dirs plan.pruned plan.root) narrow (exceeded.wide_reached refl))
+memory_late TooManyDirectories dirs plan verbose t t' o o' p p' so found exceeded failed there narrow few no_t no_o no_p = let many : 4294967295 < length (tried dirs plan.pruned plan.root) = exceeded.many_tried refl in absurd (omega arith)
+memory_late OutOfMemory dirs plan verbose t t' o o' p p' so found exceeded failed there narrow few no_t no_o no_p = refl
+
+-- what is held back at the end, whatever was answered
+pub passed_by : {T E : Type 0} (r : Result T E) (verbose : Bool) (P : Type 0) (held held' : ℕ) → OnOk r (IsTrue verbose → held' ≡ 0) → OnErr r (IsTrue verbose → P → held ≡ 0 → held' ≡ 0) → (verbose ≡ false → held' ≡ held) → P → held ≡ 0 → held' ≡ 0
+passed_by r false P held held' flushed passed quiet none out = quiet refl ∙ out
+passed_by (Ok x) true P held held' flushed passed quiet none out = flushed refl
+passed_by (Err e) true P held held' flushed passed quiet none out = passed refl none out
+
+-- What reading the settings has given, and what storing a scan by this plan has done then.
+pub record Went (asked : UpdatedbAsked) (now : Moment) (a a' : Around) (same : Same) (plan : Plan) (r : Result Counts UpdateFault) : Type 0 where
+  pub accepted : (files : Files) → a.files ≡ Some files → plan_in files asked ≡ Ok plan
+  pub root : plan.root ≡ asked.root
+  pub verbose : plan.verbose ≡ asked.verbose
+  pub read_once : (files : Files) → a.files ≡ Some files → a'.given ≡ raised a.given (both_read files)
+  pub given : a'.given ≤ a.given + 17825794
+  pub given_most : (files : Files) → a.files ≡ Some files → a'.given ≤ a.given + both_read files
+  pub conf_alone : (files : Files) (fault : UpdateFault) → a.files ≡ Some files → conf_in files asked ≡ Err fault → a'.given ≤ a.given + read_most Configuration (get files (name_of Configuration))
+  pub reads_later : a.reads_failed ≤ a'.reads_failed
+  pub stored : OnOk r ((dirs : Dirs) → a.dirs ≡ Some dirs → a'.held ≡ option_map (with_file asked.output (scan_text dirs plan now)) a.held)
+  pub completed : OnOk r ((dirs : Dirs) → a.dirs ≡ Some dirs → Completed dirs plan a.taken a'.taken a.openings a'.openings)
+  pub begun : OnOk r (a'.begins ≡ raised a.begins 1)
+  pub flushed : OnOk r (IsTrue plan.verbose → a'.held_back ≡ 0)
+  pub unstored : OnErr r (stored_in a'.held ≡ stored_in a.held)
+  pub left : IfErr r (λ fault. (dirs : Dirs) → a.dirs ≡ Some dirs → Left fault asked.output now dirs plan a.held a'.held a.taken a'.taken same.out)
+  pub begins : IfErr r (λ fault. Begins fault a.begins a'.begins)
+  pub held_back : OnErr r (IsTrue plan.verbose → (Rose a.writes_failed a'.writes_failed → ⊥) → a.held_back ≡ 0 → a'.held_back ≡ 0)
+  pub empty : IsErrOf r RootMissing → (a'.held ≡ option_map (with_pending asked.output []) a.held) × same.out
+  pub scan : IfErr r (λ fault. IsTrue (is_of_scan fault))
+  pub found : IfErr r (λ fault. (dirs : Dirs) → a.dirs ≡ Some dirs → Found fault plan.root dirs)
+  pub exceeded : IfErr r (λ fault. (dirs : Dirs) → a.dirs ≡ Some dirs → Exceeded fault dirs plan)
+  pub lacking : (dirs : Dirs) → a.dirs ≡ Some dirs → get dirs plan.root ≡ None → IsErrOf r RootMissing ⊎ (IsErrOf r TreeFault ⊎ IsErrOf r WriteFault)
+  pub failures : Failures plan.verbose r a.tree_failed a'.tree_failed a.output_failed a'.output_failed a.writes_failed a'.writes_failed
+  pub asked_of : (dirs : Dirs) → a.dirs ≡ Some dirs → AskedOf dirs plan a.priced a.openings a'.openings a.stats a'.stats
+  pub openings : a'.openings ≤ a.openings + 4294967295
+  pub quiet : plan.verbose ≡ false → same.out
+  pub same_held : same.out → a'.held_back ≡ a.held_back
+
+went_stored : (asked : UpdatedbAsked) (now : Moment) (a a' : Around) (same : Same) (plan : Plan) (r : Result Counts UpdateFault) → Went asked now a a' same plan r → (counts : Counts) → r ≡ Ok counts → Stored asked now a a'
+went_stored asked now a a' same plan r w counts is = record {
+  accepted = λ files fs. ok_is _ _ (w.accepted files fs);
+  stored = told_by a.files a.dirs asked plan _ w.accepted (at_ok r counts _ is w.stored);
+  completed = told_by a.files a.dirs asked plan _ w.accepted (at_ok r counts _ is w.completed);
+  passed_on = λ echoed. at_ok r counts _ is w.flushed (w.verbose ∙ echoed);
+  begun_once = at_ok r counts _ is w.begun;
+  read_once = w.read_once;
+}
+
+went_fault : (asked : UpdatedbAsked) (now : Moment) (a a' : Around) (same : Same) (plan : Plan) (r : Result Counts UpdateFault) → Went asked now a a' same plan r → (f : UpdateFault) → r ≡ Err f → AfterFault asked now a a' same f
+went_fault asked now a a' same plan r w f is = record {
+  unstored = at_err r f _ is w.unstored;
+  left = told_by a.files a.dirs asked plan _ w.accepted (with_err r f (λ fault. (dirs : Dirs) → a.dirs ≡ Some dirs → Left fault asked.output now dirs plan a.held a'.held a.taken a'.taken same.out) is w.left);
+  begins = with_err r f (λ fault. Begins fault a.begins a'.begins) is w.begins;
+  early = λ early. not_early f (with_err r f (λ fault. IsTrue (is_of_scan fault)) is w.scan) early;
+  empty = λ was. w.empty (is ∙ ap Err was);
+}
+
+went_caused : (asked : UpdatedbAsked) (now : Moment) (a a' : Around) (same : Same) (plan : Plan) (r : Result Counts UpdateFault) → Went asked now a a' same plan r → (f : UpdateFault) → r ≡ Err f → Caused asked a a' f
+went_caused asked now a a' same plan r w f is =
+    let scan : IsTrue (is_of_scan f) = with_err r f (λ fault. IsTrue (is_of_scan fault)) is w.scan in
+    record {
+      refused = λ so. not_refused f scan so;
+      memory = scan_hides_none f scan;
+      read_fault = λ file was. not_read f file scan was;
+      in_hand = λ was. not_read f Mounts scan was;
+      found = λ dirs ds. subst (λ (root : List ℕ). Found f root dirs) w.root (with_err r f (λ fault. (dirs : Dirs) → a.dirs ≡ Some dirs → Found fault plan.root dirs) is w.found dirs ds);
+      exceeded = told_by a.files a.dirs asked plan _ w.accepted (with_err r f (λ fault. (dirs : Dirs) → a.dirs ≡ Some dirs → Exceeded fault dirs plan) is w.exceeded);
+    }
+
+went_memory : (asked : UpdatedbAsked) (now : Moment) (a a' : Around) (same : Same) (plan : Plan) (r : Result Counts UpdateFault) → Went asked now a a' same plan r → (f : UpdateFault) → r ≡ Err f
+    → (dirs : Dirs) → a.dirs ≡ Some dirs → IsSome (get dirs plan.root) → Narrow 16777216 (reached dirs plan.pruned plan.root) → length (tried dirs plan.pruned plan.root) ≤ 4294967295
+    → (Rose a.tree_failed a'.tree_failed → ⊥) → (Rose a.output_failed a'.output_failed → ⊥) → (IsTrue plan.verbose → Rose a.writes_failed a'.writes_failed → ⊥) → f ≡ OutOfMemory
+went_memory asked now a a' same plan r w f is dirs ds there narrow few trees outputs writes =
+    memory_late f dirs plan plan.verbose a.tree_failed a'.tree_failed a.output_failed a'.output_failed a.writes_failed a'.writes_failed
+    (with_err r f (λ fault. IsTrue (is_of_scan fault)) is w.scan)
+    (with_err r f (λ fault. (dirs : Dirs) → a.dirs ≡ Some dirs → Found fault plan.root dirs) is w.found dirs ds)
+    (with_err r f (λ fault. (dirs : Dirs) → a.dirs ≡ Some dirs → Exceeded fault dirs plan) is w.exceeded dirs ds)
+    (subst (λ (q : Result Counts UpdateFault). Failures plan.verbose q a.tree_failed a'.tree_failed a.output_failed a'.output_failed a.writes_failed a'.writes_failed) is w.failures)
+    there narrow few trees outputs writes
+
+went_required : (asked : UpdatedbAsked) (now : Moment) (a a' : Around) (same : Same) (plan : Plan) (r : Result Counts UpdateFault) → Went asked now a a' same plan r → Required asked a a' r
+went_required asked now a a' same plan r w = record {
+  refuses = λ files fault fs refused. not_both _ plan fault (w.accepted files fs) refused;
+  lacking = told_by a.files a.dirs asked plan _ w.accepted (λ dirs ds gone. lacks_late r (w.lacking dirs ds gone));
+  complete = told_by a.files a.dirs asked plan _ w.accepted (λ dirs ds there narrow few reads trees outputs writes.
+      if_err_by r _ (λ f is. went_memory asked now a a' same plan r w f is dirs ds there narrow few trees outputs writes));
+}
+
+went_bounded : (asked : UpdatedbAsked) (now : Moment) (a a' : Around) (same : Same) (plan : Plan) (r : Result Counts UpdateFault) → Went asked now a a' same plan r → Bounded asked a a' same
+went_bounded asked now a a' same plan r w = record {
+  unready = λ files fault fs refused. not_both _ plan fault (w.accepted files fs) refused;
+  quiet = λ quiet. w.quiet (w.verbose ∙ quiet);
+  passed_on = passed_by r plan.verbose _ _ _ w.flushed w.held_back (λ quiet. w.same_held (w.quiet quiet));
+  given = w.given;
+  given_most = w.given_most;
+  conf_alone = w.conf_alone;
+  asked_of = told_by a.files a.dirs asked plan _ w.accepted w.asked_of;
+  openings = w.openings;
+  reads_later = w.reads_later;
+}
+
+pub went : (asked : UpdatedbAsked) (now : Moment) (a a' : Around) (same : Same) (plan : Plan) (r : Result Counts UpdateFault) → Went asked now a a' same plan r → UpdateDoes asked now a a' same r
+went asked now a a' same plan r w = record {
+  stored = on_ok_by r _ (went_stored asked now a a' same plan r w);
+  after_fault = if_err_by r _ (went_fault asked now a a' same plan r w);
+  caused = if_err_by r _ (went_caused asked now a a' same plan r w);
+  required = went_required asked now a a' same plan r w;
+  failures = subst (λ (verbose : Bool). Failures verbose r a.tree_failed a'.tree_failed a.output_failed a'.output_failed a.writes_failed a'.writes_failed) w.verbose w.failures;
+  bounded = went_bounded asked now a a' same plan r w;
+}
