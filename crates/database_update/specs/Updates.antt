@@ -71,7 +71,8 @@ pub record AfterFault (asked : UpdatedbAsked) (now : Moment) (a a' : Around) (sa
   pub early : IsTrue (is_early fault) → Untouched same
   pub empty : fault ≡ RootMissing → (a'.held ≡ option_map (with_pending asked.output []) a.held) × same.out
 
--- When each fault comes, besides the failures. Lack of memory is never reported as a refusal of the settings.
+-- When each fault comes; of failed calls on the tree and of failed writes see `Failures`. Lack of memory is never reported as
+-- a refusal of the settings.
 pub record Caused (asked : UpdatedbAsked) (a a' : Around) (fault : UpdateFault) : Type 0 where
   pub refused : IsTrue (is_refusal fault) → (files : Files) → a.files ≡ Some files → plan_in files asked ≡ Err fault
   pub memory : hides_memory fault ≡ false

@@ -1,6 +1,6 @@
 -- What is counted of a list of databases where no call fails.
-use Rattle.std.specs.Prelude.{IfSome, Ok, Err}
-use Rattle.std.proofs.Common.{◌≡◌, ℕ, ◌-◌, ◌≤◌, ◌^◌, Bool, true, false, List, [], ◌∷◌, ◌++◌, Option, Some, None, MatchBool, if◌then◌else◌, map, refl, sym, ap, subst, ◌∙◌, ◌⊎◌, inl, inr}
+use Rattle.std.specs.Prelude.{IfSome}
+use Rattle.std.proofs.Common.{◌≡◌, ℕ, ◌-◌, ◌≤◌, ◌^◌, Bool, false, List, [], ◌∷◌, Option, Some, None, MatchBool, if◌then◌else◌, map, refl, sym, ap, subst, ◌∙◌, inl, inr}
 use Rattle.std.proofs.KnownBytes.{Appends-trans, Appends-nil}
 use Rattle.std.specs.List.{flat_map}
 use Rattle.std.specs.FinMap.{get}

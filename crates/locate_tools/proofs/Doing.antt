@@ -1,6 +1,6 @@
 -- What a run does, from its parts.
-use Rattle.std.specs.Prelude.{◌≤◌, ◌⊎◌}
-use Rattle.std.proofs.Common.{◌≡◌, ℕ, List, [], Option, Some, None, inl, inr, refl, sym, ap, subst, ◌∙◌}
+use Rattle.std.specs.Prelude.{◌≤◌}
+use Rattle.std.proofs.Common.{◌≡◌, ℕ, List, [], Option, Some, None, inl, inr, sym, ap, subst, ◌∙◌}
 use Rattle.std.specs.Io.KnownBytes.{Appends}
 use Rattle.path_order.specs.Stamp.{Moment}
 use Rattle.loc_outside.specs.Causes.{Rose}
@@ -15,8 +15,7 @@ use Rattle.locate_tools.specs.declared.answer.Cause.{Cause}
 use Rattle.locate_tools.specs.declared.answer.Cause.TheVariants as causes
 use Rattle.locate_tools.specs.declared.answer.Ending.{Ending}
 use Rattle.locate_tools.specs.Calls.{CallMade, request_of, tool_called}
-use Rattle.locate_tools.specs.Does.{Does, Leaves, LeavesLocate, RunsLocate, Refuses, RunsUpdatedb, Works, known_in, standing_in}
-use Rattle.locate_tools.specs.Located.{databases_of}
+use Rattle.locate_tools.specs.Does.{Does, Leaves, LeavesLocate, RunsLocate, RunsUpdatedb, Works, known_in, standing_in}
 use Rattle.locate_tools.specs.Ran.{LocateRun}
 use Rattle.locate_tools.specs.Standing.{Standing}
 use Rattle.locate_tools.specs.Statuses.{status_of}

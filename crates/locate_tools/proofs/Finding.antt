@@ -1,19 +1,19 @@
 -- What is found in a list of databases where no call fails.
-use Rattle.std.specs.Prelude.{◌==◌, ◌||◌, ◌&&◌, not, nat_eq, IfSome, IsTrue}
-use Rattle.std.proofs.Common.{rules, ◌≡◌, ℕ, zero, suc, ◌+◌, ◌-◌, ◌<◌, ◌≤◌, min, Bool, true, false, cond, List, [], ◌∷◌, ◌++◌, length, take, Option, Some, None, MatchBool, if◌then◌else◌, refl, sym, ap, subst, ◌∙◌, ◌⊎◌, inl, inr, append_assoc, arith, length-append}
+use Rattle.std.specs.Prelude.{◌||◌, nat_eq, IfSome}
+use Rattle.std.proofs.Common.{rules, ◌≡◌, ℕ, zero, suc, ◌+◌, ◌-◌, ◌<◌, ◌≤◌, min, Bool, true, false, List, [], ◌∷◌, ◌++◌, length, take, Option, Some, None, MatchBool, if◌then◌else◌, refl, sym, ap, subst, ◌∙◌, inl, inr, arith, length-append}
 use Rattle.std.proofs.lemmas.List.{append-nil, length-take}
 use Rattle.std.proofs.lemmas.Grind.{flat_map-append}
 use Rattle.std.proofs.KnownBytes.{Appends-trans, Appends-nil}
 use Rattle.std.specs.List.{flat_map, list_any}
 use Rattle.std.specs.FinMap.{get}
 use Rattle.std.specs.Io.KnownBytes.{Appends}
-use Rattle.loc_outside.specs.Causes.{Rose, last_count}
+use Rattle.loc_outside.specs.Causes.{Rose}
 use Rattle.loc_outside.specs.Files.{Files}
 use Rattle.loc_outside.specs.Gates.{Tests}
 use Rattle.byte_feed.specs.Paths.{PathAt, ToCome}
 use Rattle.locate_engine.specs.Globs.{wanted}
-use Rattle.locate_engine.specs.Passing.{Rule, passing, up_to, tests_asked}
-use Rattle.locate_engine.specs.Searched.{Stand, SearchesWhole, at_limit, is_missing_or_read_fault, outcome_of}
+use Rattle.locate_engine.specs.Passing.{Rule, up_to, tests_asked}
+use Rattle.locate_engine.specs.Searched.{Stand, SearchesWhole, at_limit, outcome_of}
 use Rattle.any_db.specs.Formats.{contents, is_gated}
 use Rattle.locate_engine.specs.declared.query.Query.{Query}
 use Rattle.locate_engine.specs.declared.outcome.Outcome.{Outcome}
@@ -23,7 +23,7 @@ use Rattle.byte_feed.specs.Paths.{Ending}
 use Rattle.std.specs.Prelude.{Ok, Err}
 use Rattle.locate_tools.specs.Ran.{is_write_fault}
 use Rattle.locate_tools.specs.Standing.{Standing, Goes, IsComplete, ends_run}
-use Rattle.locate_tools.specs.Tried.{Known, known, TriedSearch, Moves, NoneFailed, IsMissingOrFailed, SearchedAll, stand_of}
+use Rattle.locate_tools.specs.Tried.{known, TriedSearch, Moves, NoneFailed, IsMissingOrFailed, SearchedAll, stand_of}
 use Rattle.locate_tools.specs.Located.{World, gated_in, passing_in, passing_at, ending_in, ending_at, found, endings, lines_of}
 
 -- ---- counts of failures along a run

@@ -1,9 +1,7 @@
 -- Databases that are tried one after another.
-use Rattle.std.proofs.Common.{◌≡◌, ℕ, ◌+◌, ◌<◌, ◌≤◌, ◌^◌, Bool, true, false, List, [], ◌∷◌, ◌++◌, length, drop, map, get_or, MatchBool, codes, if◌then◌else◌, Option, refl, sym, ap, subst, ◌∙◌, append_assoc, arith, add-one}
+use Rattle.std.proofs.Common.{◌≡◌, ℕ, ◌+◌, ◌<◌, ◌≤◌, ◌^◌, Bool, true, false, List, [], ◌∷◌, ◌++◌, length, drop, map, get_or, MatchBool, codes, if◌then◌else◌, Option, refl, sym, ap, subst, ◌∙◌, append_assoc, arith}
 use Rattle.std.proofs.lemmas.List.{drop-map, drop_more, append-nil, length-map}
 use Rattle.std.proofs.KnownBytes.{Appends-trans}
-use Rattle.std.specs.Io.KnownBytes.{Appends}
-use Rattle.loc_outside.specs.Causes.{Rose}
 use Rattle.loc_outside.specs.Outside.{AppendsPart}
 use Rattle.loc_outside.proofs.Parts.{part_first, part_second}
 use Rattle.locate_engine.specs.declared.outcome.Outcome.{Outcome}

@@ -1,12 +1,10 @@
 -- The query of the words.
-use Rattle.std.proofs.Common.{◌≡◌, ℕ, ◌<◌, Bool, List, [], ◌∷◌, Option, map, refl, sym, ap, subst, ◌∙◌}
+use Rattle.std.proofs.Common.{◌≡◌, ℕ, ◌<◌, Bool, List, [], ◌∷◌, map, refl, sym, ap, subst, ◌∙◌}
 use Rattle.std.specs.Prelude.{IfSome}
 use Rattle.glob_match.specs.Pattern.{Wanted, wanted}
 use Rattle.locate_engine.specs.declared.query.Query.{Query}
 use Rattle.locate_engine.specs.declared.outcome.Outcome.{Outcome}
 use Rattle.tool_words.specs.Locate.{LocateAsked}
-use Rattle.loc_outside.specs.Files.{Files}
-use Rattle.loc_outside.specs.Gates.{Tests}
 use Rattle.locate_tools.specs.Located.{databases_of, query_of}
 use Rattle.locate_tools.specs.Standing.{Standing, Goes, IsComplete}
 use Rattle.locate_tools.specs.Tried.{Known, Tried}

@@ -1,15 +1,14 @@
 -- A run of `locate`, as a whole.
-use Rattle.std.specs.Prelude.{nat_eq, not, decimal, IfSome, IsTrue, filter, ◌||◌, ◌&&◌}
+use Rattle.std.specs.Prelude.{not, decimal, IsTrue, filter, ◌||◌, ◌&&◌}
 use Rattle.std.specs.List.{flat_map, list_any}
 use Rattle.std.proofs.lemmas.List.{append-nil}
-use Rattle.std.proofs.Common.{rules, ◌≡◌, ℕ, ◌+◌, ◌<◌, ◌≤◌, min, Bool, true, false, cond, List, [], ◌∷◌, ◌++◌, length, Option, Some, None, MatchBool, if◌then◌else◌, refl, sym, ap, subst, ◌∙◌, arith}
+use Rattle.std.proofs.Common.{rules, ◌≡◌, ℕ, ◌+◌, ◌≤◌, min, Bool, true, false, List, [], ◌∷◌, ◌++◌, length, Option, Some, None, if◌then◌else◌, refl, sym, ap, subst, ◌∙◌, arith}
 use Rattle.std.proofs.KnownBytes.{Appends-trans}
 use Rattle.std.specs.Io.KnownBytes.{Appends}
 use Rattle.loc_outside.specs.Causes.{Rose, last_count}
 use Rattle.loc_outside.specs.Files.{Files}
 use Rattle.loc_outside.specs.Gates.{Tests}
 use Rattle.tool_words.specs.Locate.{LocateAsked}
-use Rattle.locate_engine.specs.Searched.{at_limit}
 use Rattle.locate_engine.specs.declared.query.Query.{Query}
 use Rattle.locate_engine.specs.declared.outcome.Outcome.{Outcome}
 use Rattle.locate_engine.specs.declared.outcome.Outcome.TheVariants as outcomes
@@ -17,8 +16,8 @@ use Rattle.locate_tools.specs.declared.answer.Cause.{Cause}
 use Rattle.locate_tools.specs.declared.answer.Cause.TheVariants as causes
 use Rattle.locate_tools.specs.Standing.{Standing, Goes, IsComplete}
 use Rattle.locate_tools.specs.Tried.{Known, known, Tried, TriedCount, TriedSearch, Moves, NoneFailed}
-use Rattle.locate_tools.specs.Located.{World, Locates, LocatesIn, may_ask_gate, lines_of, number_of, asks_nothing, databases_of, query_of, found, endings, ending_at, passing_at, cause_of}
-use Rattle.locate_tools.specs.Ran.{LocateRan, LocateRun, Concludes, is_write_fault, is_read_fault, is_gate_fault, numbers, cause_after}
+use Rattle.locate_tools.specs.Located.{World, Locates, LocatesIn, may_ask_gate, lines_of, number_of, asks_nothing, databases_of, query_of, found, endings, cause_of}
+use Rattle.locate_tools.specs.Ran.{LocateRan, LocateRun, is_write_fault, is_read_fault, is_gate_fault}
 use Rattle.locate_tools.specs.Counted.{CountsAll, statistics_at}
 use Rattle.locate_tools.proofs.CountingAll.{goes_gives}
 use Rattle.locate_tools.proofs.Finding.{Below, FindsAll, Later, asks_some, goes_on_out, none_first, rose_second, goes_finds, goes_later, moves_later, finds_none}

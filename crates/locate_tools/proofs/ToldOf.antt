@@ -1,5 +1,5 @@
 -- What is told of a run, by what it was to do.
-use Rattle.std.proofs.Common.{◌≡◌, ℕ, Bool, true, false, List, [], ◌∷◌, ◌++◌, Option, Some, None, refl, sym, ap, subst, ◌∙◌}
+use Rattle.std.proofs.Common.{◌≡◌, ℕ, Bool, true, false, List, [], ◌++◌, Option, Some, None, refl, sym, ap, ◌∙◌}
 use Rattle.std.specs.Prelude.{option_map}
 use Rattle.locate_engine.specs.declared.outcome.Outcome.{Outcome}
 use Rattle.tool_words.specs.Asked.{Asked, Updatedb, Locate, Convert, Exercise, asked, asked_of}

@@ -2,8 +2,6 @@
 use Rattle.std.specs.Prelude.{ℕ, List, [], Option, Some, None}
 use Rattle.path_order.specs.Stamp.{Moment}
 use Rattle.tool_words.specs.Asked.{Asked, Updatedb, Locate, Convert, Exercise, asked}
-use Rattle.tool_words.specs.Locate.{LocateAsked}
-use Rattle.tool_words.specs.Updatedb.{UpdatedbAsked}
 use Rattle.tool_words.specs.Values.{◌>>=◌}
 use Rattle.tool_words.specs.Tools.{speaker, tool_of}
 use Rattle.database_update.specs.SettingsFiles.{name_of}

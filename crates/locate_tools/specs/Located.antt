@@ -1,5 +1,5 @@
 -- What `locate` finds in a list of databases, where no call fails.
-use Rattle.std.specs.Prelude.{◌≡◌, ℕ, ◌+◌, Bool, false, ◌&&◌, ◌||◌, not, nat_eq, List, [], ◌∷◌, ◌++◌, length, map, Option, Some, None, codes, decimal, if◌then◌else◌}
+use Rattle.std.specs.Prelude.{◌≡◌, ℕ, ◌+◌, Bool, false, ◌&&◌, ◌||◌, not, nat_eq, List, [], ◌∷◌, ◌++◌, length, map, Option, Some, None, decimal, if◌then◌else◌}
 use Rattle.std.specs.List.{flat_map, list_any}
 use Rattle.std.specs.FinMap.{get}
 use Rattle.std.specs.Io.KnownBytes.{Appends}
@@ -9,7 +9,7 @@ use Rattle.byte_feed.specs.Paths.{PathAt}
 use Rattle.glob_match.specs.Pattern.{wanted as pattern_wanted}
 use Rattle.tool_words.specs.Locate.{LocateAsked}
 use Rattle.locate_engine.specs.Globs.{wanted}
-use Rattle.locate_engine.specs.Passing.{Rule, rule_of, passing, up_to}
+use Rattle.locate_engine.specs.Passing.{rule_of, passing, up_to}
 use Rattle.locate_engine.specs.Searched.{outcome_of, at_limit}
 use Rattle.any_db.specs.Formats.{contents, is_gated}
 use Rattle.locate_engine.specs.declared.query.Query.{Query}

@@ -8,7 +8,7 @@ use Rattle.posix_regex.specs.declared.fault.RegexCause.{RegexCause}
 use Rattle.posix_regex.specs.declared.fault.RegexCause.TheVariants.{BadBracket, BadClass, Unsupported}
 use Rattle.posix_regex.specs.Expression.{Expression, OneOf}
 
--- what is read by a second reader from what a first one read, or the fault of the first
+-- what a second reader makes of what a first one has read, or the fault of the first
 abbrev pub on_ok : {A B E : Type 0} → Result A E → (A → Result B E) → Result B E
 on_ok (Ok read) next = next read
 on_ok (Err fault) next = Err fault
@@ -17,20 +17,20 @@ on_ok (Err fault) next = Err fault
 unfoldable pub is_reserved : List ℕ → Bool
 is_reserved text = starts_with nat_eq text (codes "[=") || starts_with nat_eq text (codes "[.")
 
--- whether a byte before the text begins a range: a `-` stands first, and then neither the closing `]` nor a class
+-- whether a range goes on behind its first byte: a `-` comes first, and then neither the closing `]` nor a class
 unfoldable pub is_range : List ℕ → Bool
 is_range [] = false
 is_range (dash ∷ []) = false
 is_range (dash ∷ x ∷ text) = dash == 45 && (not (x == 93) && is_none (class_at (x ∷ text)))
 
--- the class whose name has so many letters, and how many bytes it takes; places count from the `[` of the bracket
--- expression, here that of the class
+-- the class whose name has so many letters, and how many bytes it takes; `at` is the place of its `[`, counted from that of
+-- the bracket expression
 unfoldable pub class_member : ℕ → List ℕ → ℕ → Result (Part × ℕ) (ℕ × RegexCause)
 class_member at text letters =
     if is_some (class_named (take letters (drop 2 text))) then Ok (Named (take letters (drop 2 text)), letters + 4)
     else Err (at, BadClass)
 
--- the range from a byte at a place, after which the text stands, and how many bytes it takes
+-- the range that begins with a byte at a place and goes on in the text, and how many bytes it takes
 unfoldable pub range_member : ℕ → ℕ → List ℕ → Result (Part × ℕ) (ℕ × RegexCause)
 range_member at low text =
     if is_reserved (drop 1 text) then Err (at + 2, Unsupported)
@@ -52,7 +52,8 @@ member_or at text None = byte_member at text
 abbrev pub member_at : ℕ → List ℕ → Result (Part × ℕ) (ℕ × RegexCause)
 member_at at text = member_or at text (class_at text)
 
--- past some bytes, the members up to the closing `]`, before which the earlier ones stand, and the place after it
+-- some bytes are skipped first; then the members up to the closing `]`, the last first, in front of the earlier ones, and
+-- the place after it
 unfoldable pub members_from : List Part → ℕ → ℕ → List ℕ → Result (List Part × ℕ) (ℕ × RegexCause)
 members_from earlier at skip [] = Err (0, BadBracket)
 members_from earlier at (suc skip) (x ∷ text) = members_from earlier (at + 1) skip text

@@ -36,7 +36,8 @@ Spans (Repeat inner least more) text i j = (count : ℕ) × IsAllowed least more
 abbrev pub Found : Expression → List ℕ → Type 0
 Found expression text = (i : ℕ) × (j : ℕ) × (i ≤ j) × (j ≤ length text) × Spans expression text i j
 
--- how much an expression asks for, with its repetitions written out
+-- How big an expression is: its bytes, anchors and bars. A part that is repeated counts as often as it may be, with one more
+-- each time; where that is without end, as often as it must be, or once.
 unfoldable pub size : Expression → ℕ
 size (OneOf bytes) = 1
 size Start = 1

@@ -27,8 +27,8 @@ number_at text =
 unfoldable pub closing : Bool → List ℕ
 closing extended = if extended then codes "}" else codes "\\}"
 
--- how often a repetition between two numbers repeats, and how often more it may, if the numbers are at most 255 and don't
--- fall, and how many bytes spell them
+-- the least count of a repetition between two numbers and how many more are allowed, where both are at most 255 and the
+-- second is no less than the first, and how many bytes spell them
 unfoldable pub bounded : ℕ → ℕ → ℕ → Option ((ℕ × Option ℕ) × ℕ)
 bounded least most taken = if nat_le least most && nat_le most 255 then Some ((least, Some (most - least)), taken) else None
 

@@ -19,7 +19,7 @@ escape_basic (x ∷ text) =
     else (if x == 123 then (Interval, 2)
     else (if is_alnum x || (x == 124 || (x == 43 || x == 63)) then (Unsupported, 2) else (Byte x, 2))))
 
--- what stands first means in extended syntax, and how many bytes say so
+-- the meaning of the first bytes in extended syntax, and how many they are
 unfoldable pub meaning_extended : ℕ → List ℕ → Meaning × ℕ
 meaning_extended x text =
     if x == 92 then escape_extended text

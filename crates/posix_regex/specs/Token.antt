@@ -62,8 +62,8 @@ token_of KeptBar = Bar
 token_of KeptOpen = Open
 token_of KeptClose = Close
 
--- whether the pattern or a group has just begun after a token, and whether it has begun with at most an anchor;
--- basic syntax alone asks, where no anchor of the start stands elsewhere
+-- Whether the pattern or a group has just begun after a token, and whether it has begun with at most an anchor. Basic syntax
+-- alone asks; there an anchor of the start is only at a beginning, so an anchor behind a token tells that one has begun.
 unfoldable pub begins_after : Token → Bool
 begins_after Open = true
 begins_after (Atom e) = false

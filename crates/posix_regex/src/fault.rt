@@ -5,11 +5,11 @@
 pub enum RegexCause {
     /// A bracket expression without its `]`, or with a range whose end is below its start: at its `[`.
     BadBracket,
-    /// A character class that there is not: at its `[`.
+    /// A character class of an unknown name: at its `[`.
     BadClass,
-    /// A suffix with nothing before it, or an interval that is none: at its first byte.
+    /// A suffix with nothing before it, or an interval that is not well formed: at its first byte.
     BadRepeat,
-    /// A closing mark without an open group, at the mark, or a group that stays open, at its opening mark.
+    /// A closing mark without an open group, at the mark; or groups that stay open, at the opening mark of the last of them.
     BadGroup,
     /// A backslash at the end: at that byte.
     Trailing,

@@ -63,7 +63,7 @@ fn closing(extended: bool) -> &'static [u8]
     if extended { b"}" } else { b"\\}" }
 }
 
-/// How often a repetition repeats and how often more it may, and how many bytes spell it.
+/// The least count of a repetition, how many more are allowed, and how many bytes spell it.
 type Bounds = ((usize, Option<usize>), usize);
 
 #[tactic(auto, unfolding(crate::specs::Interval::bounded))]

@@ -16,9 +16,9 @@ use std::alloc::{AllocError, Global};
 use std::marker::Model;
 use std::sync::ledger::Ledger;
 
-/// A regular expression over bytes, after POSIX (Base Definitions, "Regular Expressions"), as items that
-/// lead on to one another, with the sets that a search fills. It has no back-references, no collating symbols and no equivalence classes,
-/// and of the escapes of letters and digits none.
+/// A regular expression over bytes, after POSIX (Base Definitions, "Regular Expressions"), as items that lead on to one
+/// another, with the sets that a search fills. There are no back-references, collating symbols or equivalence classes, and no
+/// escapes of letters or digits.
 #[derive(Drop)]
 pub struct Regex {
     states: States,

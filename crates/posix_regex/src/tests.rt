@@ -195,7 +195,7 @@ fn counted<L: Ledger>(blank: Blank, regex: &mut Regex, text: &[u8]) -> bool
     regex.matches(text, &mut steps)
 }
 
-// What a caller writes that counts no steps.
+// What a caller that counts no steps writes.
 fn is_match(regex: &mut Regex, text: &[u8]) -> bool {
     counted::<Brand>(Blank::new(1), regex, text)
 }

@@ -1,4 +1,4 @@
-use Rattle.std.proofs.Common.{refl, sym, ap, subst, ◌∙◌, List}
+use Rattle.std.proofs.Common.{refl, subst, List}
 use Rattle.tool_words.specs.LocateSeen.{seen}
 use Rattle.locate_engine.specs.declared.outcome.Outcome.{Outcome}
 use Rattle.locate_tools.specs.Standing.{standing}

@@ -1,4 +1,4 @@
-use Rattle.std.proofs.Common.{◌≡◌, sym, ap, ◌∙◌, map}
+use Rattle.std.proofs.Common.{ap, map}
 use Rattle.tool_words.specs.LocateSeen.{seen}
 use Rattle.locate_tools.proofs.Queries.{query_is}
 use Rattle.locate_tools.proofs.locate_run.query_of.Goals as goal

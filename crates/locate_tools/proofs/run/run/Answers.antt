@@ -1,5 +1,5 @@
 use Rattle.std.specs.Prelude.{Err}
-use Rattle.std.proofs.Common.{◌≡◌, [], Option, Some, refl, sym, ap, ◌∙◌}
+use Rattle.std.proofs.Common.{[], Option, refl, sym, ap, ◌∙◌}
 use Rattle.tool_words.specs.LocateSeen.{seen as locate_seen}
 use Rattle.tool_words.specs.UpdatedbSeen.{seen as updatedb_seen}
 use Rattle.tool_words.specs.declared.tool.Tool.{Tool}

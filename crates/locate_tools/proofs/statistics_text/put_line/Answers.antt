@@ -1,4 +1,4 @@
-use Rattle.std.proofs.Common.{◌∷◌, [], Result, Ok, Err, OnErr}
+use Rattle.std.proofs.Common.{◌∷◌, []}
 use Rattle.loc_outside.proofs.Parts.{part_second}
 use Rattle.locate_tools.proofs.Told.{on_err_by}
 use Rattle.locate_tools.proofs.statistics_text.put_line.Goals as goal
