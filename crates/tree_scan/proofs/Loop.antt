@@ -18,7 +18,7 @@ use Rattle.tree_scan.specs.Reach.{is_open, is_tried, tried, reached}
 use Rattle.tree_scan.specs.Records.{Record, Honest, Relied, bears, is_vouched, unvouched}
 use Rattle.tree_scan.specs.Steps.{here, next, child_paths, weight, subtree}
 use Rattle.tree_scan.specs.Walks.{Standing, Passes, Breaks, AddsChildren, LinesFollow, NamesMore, Narrow, StopsAtWide, Whole, WroteOf, opens}
-use Rattle.tree_scan.proofs.Asking.{Keeps, under_itself, same_vouched}
+use Rattle.tree_scan.proofs.Asking.{Fewer, Keeps, under_itself, same_vouched}
 use Rattle.tree_scan.proofs.Follows.{Pieces, follows_none, follows_part, follows_after, follows_more, written_blocks, echoed_blocks}
 use Rattle.tree_scan.proofs.Lists.{Each, Has, Rises, each_more, each_append, has_left, has_right}
 pub use Rattle.tree_scan.proofs.Past.{Found}
@@ -102,9 +102,10 @@ first_tried dirs pruned root path rest old dir Written fits is_old found p s =
     (has_left (path, dir) (s.went ++ here dirs (is_tried pruned) path) _ (has_right (path, dir) s.went (here dirs (is_tried pruned) path)
     (subst (λ (l : Found). Has {A = List ℕ × Dir} (path, dir) l) (sym (here_tried dirs pruned path dir found p)) (inl refl)))))
 
-pub relied_by : (records entry : List Record) (dirs : Dirs) (plan : Plan) (path : List ℕ) (dir : Dir) → ((r : Record) → Contains records r → Contains entry r) → Honest entry dirs plan → Contains (tried dirs plan.pruned plan.root) (path, dir)
-    → Relied records (plan.device_of path) path dir
-relied_by records entry dirs plan path dir fewer honest there = λ names v.
+pub relied_by : (now entry : Option (List Record)) (dirs : Dirs) (plan : Plan) (path : List ℕ) (dir : Dir) → Fewer entry now → Honest entry dirs plan → Contains (tried dirs plan.pruned plan.root) (path, dir) → Relied now (plan.device_of path) path dir
+relied_by now None dirs plan path dir fewer honest there = absurd honest
+relied_by None (Some e) dirs plan path dir fewer honest there = absurd fewer
+relied_by (Some n) (Some e) dirs plan path dir fewer honest there = λ names v.
     let at : v.known.path ≡ path = v.at in
     let h = honest v.known dir (fewer v.known v.there) (subst (λ (p : List ℕ). Contains (tried dirs plan.pruned plan.root) (p, dir)) (sym at) there)
     (subst (λ (p : List ℕ). bears v.known (time_of dir.times) (plan.device_of p) ≡ true) (sym at) v.bearing) in
@@ -384,7 +385,7 @@ pub wrote_header : (plan : Plan) (now : Moment) (u v e : Option (List ℕ)) → 
 wrote_header plan now u v e h = record { taken = subst (λ (l : List ℕ). Appends u v l) (sym (append-nil (header plan))) h; echoed = Appends-nil e }
 
 -- the records of the path in hand can be relied on
-pub step_relied : (dirs : Dirs) (plan : Plan) (path : List ℕ) (rest old : List (List ℕ)) (now entry : List Record) (Written : Found → Found → Type 0) → ((r : Record) → Contains now r → Contains entry r) → Honest entry dirs plan → length path ≤ 4096 → old ≡ path ∷ rest
+pub step_relied : (dirs : Dirs) (plan : Plan) (path : List ℕ) (rest old : List (List ℕ)) (now entry : Option (List Record)) (Written : Found → Found → Type 0) → Fewer entry now → Honest entry dirs plan → length path ≤ 4096 → old ≡ path ∷ rest
     → Split dirs plan.pruned plan.root old Written → (dir : Dir) → get dirs path ≡ Some dir → plan.pruned path ≡ false → Relied now (plan.device_of path) path dir
 step_relied dirs plan path rest old now entry Written fewer honest fits is_old s dir found open_ =
     relied_by now entry dirs plan path dir fewer honest (first_tried dirs plan.pruned plan.root path rest old dir Written fits is_old found open_ s)

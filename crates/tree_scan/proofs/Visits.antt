@@ -13,7 +13,7 @@ use Rattle.tree_scan.specs.Admitted.{admitted, paths_in}
 use Rattle.tree_scan.specs.Blocks.{block, block_pieces, block_text, entries_of, lines, lines_of, pieces, stamped, time_of}
 use Rattle.tree_scan.specs.Plan.{Plan}
 use Rattle.tree_scan.specs.Reach.{is_open, is_tried}
-use Rattle.tree_scan.specs.Records.{Record, Leaves, is_vouched, unvouched}
+use Rattle.tree_scan.specs.Records.{Record, is_vouched, unvouched}
 use Rattle.tree_scan.specs.Steps.{here, weight}
 use Rattle.tree_scan.specs.Walks.{Passes, Breaks, LinesFollow, AddsChildren, opens, standing}
 use Rattle.tree_scan.specs.declared.progress.Progress.{Progress}
@@ -140,10 +140,6 @@ stat_share priced path root stats stats' is e = subst (λ (p : List ℕ). stats'
 
 pub raised_nothing : (n m : ℕ) → n < 2 ^ 64 → m ≡ 0 → n ≡ raised n m
 raised_nothing n m small e = omega (arith, small, e)
-
--- where no question was asked
-pub leaves_same : (path : List ℕ) (records : List Record) (whole : Bool) → Leaves path records whole records whole
-leaves_same path records whole = record { some = λ r h. h; mark = λ w. w; later = λ w r h b. h }
 
 -- how often a directory that is there and not pruned counts
 pub here_once : (dirs : Dirs) (pruned : List ℕ → Bool) (path : List ℕ) (dir : Dir) → get dirs path ≡ Some dir → pruned path ≡ false → length (here dirs (is_tried pruned) path) ≡ 1

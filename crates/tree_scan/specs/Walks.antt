@@ -66,10 +66,6 @@ pub record AddsChildren (path : List ℕ) (old new : List (List ℕ)) : Type 0 w
   pub fitting : Fitting path names
   pub are : new ≡ paths_in path names ++ old
 
--- a floor that stays, or is none or this path
-abbrev pub FloorMoves : List ℕ → Option (List ℕ) → Option (List ℕ) → Type 0
-FloorMoves path old new = (new ≡ old) ⊎ IfSome new (λ floor. floor ≡ path)
-
 -- the directory at a path is not pruned, shows its names, and has more of them than the limit
 pub record NamesMore (dirs : Dirs) (pruned : List ℕ → Bool) (limit : ℕ) (path : List ℕ) : Type 0 where
   pub dir : Dir

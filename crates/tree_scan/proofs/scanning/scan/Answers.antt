@@ -5,7 +5,7 @@ use Rattle.loc_outside.specs.Outside.{AppendsPart}
 use Rattle.loc_outside.specs.Trees.{Dir, Dirs, StatsAs}
 use Rattle.tree_scan.specs.Blocks.{time_of, scan_pieces, scan_text, echo_text}
 use Rattle.tree_scan.specs.Plans.{plan_of}
-use Rattle.tree_scan.specs.Records.{Honest, is_vouched}
+use Rattle.tree_scan.specs.Records.{Honest, answers_all, is_vouched, known}
 use Rattle.tree_scan.specs.Reach.{is_tried}
 use Rattle.tree_scan.specs.Steps.{weight}
 use Rattle.tree_scan.specs.Walks.{AddsChildren, LinesFollow, standing}
@@ -14,21 +14,13 @@ use Rattle.tree_scan.proofs.Pieces.{when_err}
 use Rattle.tree_scan.proofs.Texts.{normal_fits}
 use Rattle.tree_scan.proofs.Told.{stat_found, when_true, when_false, whole_by, not_none, some_is}
 use Rattle.tree_scan.proofs.Visits.{stat_share}
-use Rattle.tree_scan.proofs.Asking.{InOrder, Keeps, Low, order_step, order_begin, low_step, keeps_step, keeps_begin}
+use Rattle.tree_scan.proofs.Asking.{Keeps, Low, fewer_known, fewer_left, fewer_same, honest_known, keeps_begin, keeps_step, low_step, mark_before, mark_now, order_step, some_now}
+use Rattle.tree_scan.proofs.Lists.{Rises}
+use Rattle.tree_scan.proofs.Sorted.{Apart}
 use Rattle.tree_scan.proofs.Past.{Visited, visited_begin, visited_step, visited_full}
 use Rattle.tree_scan.proofs.Stops.{came_to, came_to_root, narrow_entry, unvouched_entry, wide_hand}
 use Rattle.tree_scan.proofs.Loop.{Split, Stands, Wrote, Counts, split_step, split_end, split_map, wrote_of, tried_room, unvouched_room, breaks_off, whole_blocks, parts_none, parts_header, wrote_header, step_relied, root_split, stands_root, stands_step, opens_same, asked_room, stops_wide, stops_full, root_wide, root_full}
 use Rattle.tree_scan.proofs.scanning.scan.Goals as goal
-
-pub come-requires-clause-floor : goal.come-requires-clause-floor
-come-requires-clause-floor g c = (order_begin c.root_of-path.result (g.V.Voucher.floor c.args.voucher.now) c.requires.floor).after.0
-
-pub step-requires-clause-floor : goal.step-requires-clause-floor
-step-requires-clause-floor g c =
-    let fits = normal_fits c.pop.new.into (c.pop.ensures.normal c.walk-test.true) in
-    let pend : c.walk.progress.pending ≡ c.pop.new.into ∷ c.pop.new.self = when_true c.pop.result (c.walk.progress.pending ≡ c.pop.new.into ∷ c.pop.new.self) (c.walk.progress.pending ≡ []) c.walk-test.true c.pop.ensures.popped in
-    let order = subst (InOrder (g.V.Voucher.floor c.walk.voucher)) pend c.walk.invariant.order in
-    order.after.0
 
 pub walk-init : goal.walk-init
 walk-init g c = record {
@@ -40,11 +32,11 @@ walk-init g c = record {
       let told2 = g.met.T.Tree.keeps_dirs _ _ c.in-Ok.ensures.kept ∙ told in
       let time = c.later-time.ensures ∙ ap time_of f.times_are in
       let s0 : Split dirs (plan_of c.args.rules.now).pruned (plan_of c.args.rules.now).root (c.root_of-path.result ∷ []) (λ done went. Wrote (plan_of c.args.rules.now) c.args.now (g.D.Sink.taken c.args.sink.now) (g.D.Sink.taken c.put_front.new.sink) (g.P.Sink.taken c.args.echo.now) (g.P.Sink.taken c.args.echo.now) done) = root_split dirs (plan_of c.args.rules.now) c.root_of-path.result (λ done went. Wrote (plan_of c.args.rules.now) c.args.now (g.D.Sink.taken c.args.sink.now) (g.D.Sink.taken c.put_front.new.sink) (g.P.Sink.taken c.args.echo.now) (g.P.Sink.taken c.args.echo.now) done) root_is fits (wrote_header (plan_of c.args.rules.now) c.args.now _ _ _ c.in-Ok-put_front.ensures.ok) in
-      let relied = step_relied dirs (plan_of c.args.rules.now) c.root_of-path.result [] (c.root_of-path.result ∷ []) (g.V.Voucher.records c.args.voucher.now) (g.V.Voucher.records c.args.voucher.now) (λ done went. Wrote (plan_of c.args.rules.now) c.args.now (g.D.Sink.taken c.args.sink.now) (g.D.Sink.taken c.put_front.new.sink) (g.P.Sink.taken c.args.echo.now) (g.P.Sink.taken c.args.echo.now) done) (λ r h. h) honest path_fits refl s0 in
+      let relied = step_relied dirs (plan_of c.args.rules.now) c.root_of-path.result [] (c.root_of-path.result ∷ []) (g.V.Voucher.records c.args.voucher.now) (g.V.Voucher.records c.args.voucher.now) (λ done went. Wrote (plan_of c.args.rules.now) c.args.now (g.D.Sink.taken c.args.sink.now) (g.D.Sink.taken c.put_front.new.sink) (g.P.Sink.taken c.args.echo.now) (g.P.Sink.taken c.args.echo.now) done) (fewer_same (g.V.Voucher.records c.args.voucher.now)) honest path_fits refl s0 in
       let share = stat_share (g.T.Tree.priced c.args.tree.now) c.bytes.result.now c.args.rules.now.root _ _ (c.bytes.ensures.value ∙ c.root_of-path.ensures) c.in-Ok.ensures.stats in
       let passes = c.in_ok-come.ensures.done dirs told2 f.dir f.is time relied in
-      let counts : Counts dirs (plan_of c.args.rules.now) (record { taken = g.D.Sink.taken c.args.sink.now; echoed = g.P.Sink.taken c.args.echo.now; stats = g.T.Tree.stats c.args.tree.now + (if g.T.Tree.priced c.args.tree.now c.args.rules.now.root then 1 else 0); openings = g.T.Tree.openings c.args.tree.now; records = g.V.Voucher.records c.args.voucher.now; priced = g.T.Tree.priced c.args.tree.now; names = c.args.limits.now.names }) c.root_of-path.result (record { standing = standing (g.D.Sink.taken c.put_front.new.sink) (g.P.Sink.taken c.args.echo.now) c.new-progress.result; stats = g.T.Tree.stats c.stat.new.self; openings = g.T.Tree.openings c.stat.new.self; whole = g.V.Voucher.whole c.args.voucher.now }) (record { standing = standing (g.D.Sink.taken c.come.new.sink) (g.P.Sink.taken c.come.new.echo) c.come.new.progress; stats = g.T.Tree.stats c.come.new.tree; openings = g.T.Tree.openings c.come.new.tree; whole = g.V.Voucher.whole c.come.new.voucher }) = record { mark = c.in_ok-come.ensures.leaves.mark; opened = c.in_ok-come.ensures.exact dirs told2 f.dir f.is time; few = omega (arith, c.in_ok-come.ensures.within, c.requires.directories); adds = c.in_ok-come.ensures.adds; narrow = c.in_ok-come.ensures.kept_limit dirs told2 f.dir f.is time } in
-      stands_root dirs (plan_of c.args.rules.now) c.args.now (record { taken = g.D.Sink.taken c.args.sink.now; echoed = g.P.Sink.taken c.args.echo.now; stats = g.T.Tree.stats c.args.tree.now + (if g.T.Tree.priced c.args.tree.now c.args.rules.now.root then 1 else 0); openings = g.T.Tree.openings c.args.tree.now; records = g.V.Voucher.records c.args.voucher.now; priced = g.T.Tree.priced c.args.tree.now; names = c.args.limits.now.names }) c.root_of-path.result (record { standing = standing (g.D.Sink.taken c.put_front.new.sink) (g.P.Sink.taken c.args.echo.now) c.new-progress.result; stats = g.T.Tree.stats c.stat.new.self; openings = g.T.Tree.openings c.stat.new.self; whole = g.V.Voucher.whole c.args.voucher.now }) (record { standing = standing (g.D.Sink.taken c.come.new.sink) (g.P.Sink.taken c.come.new.echo) c.come.new.progress; stats = g.T.Tree.stats c.come.new.tree; openings = g.T.Tree.openings c.come.new.tree; whole = g.V.Voucher.whole c.come.new.voucher }) root_is fits c.in-Ok-put_front.ensures.ok refl c.new-progress.ensures.pending c.new-progress.ensures.tried c.new-progress.ensures.no_blocks c.new-progress.ensures.no_entries c.in-Ok.ensures.openings passes counts (omega (arith, share, c.in_ok-come.ensures.stats));
+      let counts : Counts dirs (plan_of c.args.rules.now) (record { taken = g.D.Sink.taken c.args.sink.now; echoed = g.P.Sink.taken c.args.echo.now; stats = g.T.Tree.stats c.args.tree.now + (if g.T.Tree.priced c.args.tree.now c.args.rules.now.root then 1 else 0); openings = g.T.Tree.openings c.args.tree.now; records = known (g.V.Voucher.records c.args.voucher.now); priced = g.T.Tree.priced c.args.tree.now; names = c.args.limits.now.names }) c.root_of-path.result (record { standing = standing (g.D.Sink.taken c.put_front.new.sink) (g.P.Sink.taken c.args.echo.now) c.new-progress.result; stats = g.T.Tree.stats c.stat.new.self; openings = g.T.Tree.openings c.stat.new.self; whole = answers_all (g.V.Voucher.records c.args.voucher.now) (g.V.Voucher.ordered c.args.voucher.now) (g.V.Voucher.unbroken c.args.voucher.now) }) (record { standing = standing (g.D.Sink.taken c.come.new.sink) (g.P.Sink.taken c.come.new.echo) c.come.new.progress; stats = g.T.Tree.stats c.come.new.tree; openings = g.T.Tree.openings c.come.new.tree; whole = answers_all (g.V.Voucher.records c.args.voucher.now) (g.V.Voucher.ordered c.args.voucher.now) (g.V.Voucher.unbroken c.come.new.voucher) }) = record { mark = mark_before (g.V.Voucher.records c.args.voucher.now) (g.V.Voucher.ordered c.args.voucher.now) _ _ c.in_ok-come.ensures.unbroken; opened = c.in_ok-come.ensures.exact dirs told2 f.dir f.is time; few = omega (arith, c.in_ok-come.ensures.within, c.requires.directories); adds = c.in_ok-come.ensures.adds; narrow = c.in_ok-come.ensures.kept_limit (honest_known _ dirs (plan_of c.args.rules.now) honest) dirs told2 f.dir f.is time } in
+      stands_root dirs (plan_of c.args.rules.now) c.args.now (record { taken = g.D.Sink.taken c.args.sink.now; echoed = g.P.Sink.taken c.args.echo.now; stats = g.T.Tree.stats c.args.tree.now + (if g.T.Tree.priced c.args.tree.now c.args.rules.now.root then 1 else 0); openings = g.T.Tree.openings c.args.tree.now; records = known (g.V.Voucher.records c.args.voucher.now); priced = g.T.Tree.priced c.args.tree.now; names = c.args.limits.now.names }) c.root_of-path.result (record { standing = standing (g.D.Sink.taken c.put_front.new.sink) (g.P.Sink.taken c.args.echo.now) c.new-progress.result; stats = g.T.Tree.stats c.stat.new.self; openings = g.T.Tree.openings c.stat.new.self; whole = answers_all (g.V.Voucher.records c.args.voucher.now) (g.V.Voucher.ordered c.args.voucher.now) (g.V.Voucher.unbroken c.args.voucher.now) }) (record { standing = standing (g.D.Sink.taken c.come.new.sink) (g.P.Sink.taken c.come.new.echo) c.come.new.progress; stats = g.T.Tree.stats c.come.new.tree; openings = g.T.Tree.openings c.come.new.tree; whole = answers_all (g.V.Voucher.records c.args.voucher.now) (g.V.Voucher.ordered c.args.voucher.now) (g.V.Voucher.unbroken c.come.new.voucher) }) root_is fits c.in-Ok-put_front.ensures.ok refl c.new-progress.ensures.pending c.new-progress.ensures.tried c.new-progress.ensures.no_blocks c.new-progress.ensures.no_entries c.in-Ok.ensures.openings passes counts (omega (arith, share, c.in_ok-come.ensures.stats));
   there = λ dirs told none.
       let f = stat_found _ dirs c.root_of-path.result c.in-Ok.found c.in-Some.times told c.in-Some.is (subst (λ (p : List ℕ). StatsAs (g.T.Tree.dirs c.args.tree.now) p (Ok c.in-Ok.found)) c.bytes.ensures.value c.in-Ok.ensures.found) in
       let told2 = g.met.T.Tree.keeps_dirs _ _ c.in-Ok.ensures.kept ∙ told in
@@ -59,14 +51,15 @@ walk-init g c = record {
       visited_step dirs (is_tried (plan_of c.args.rules.now).pruned) c.root_of-path.result [] c.come.new.progress.pending c.new-progress.result.tried c.come.new.progress.tried adds (tt, tt) (c.in_ok-come.ensures.seen dirs told2 f.dir f.is time) (visited_begin dirs c.root_of-path.result c.new-progress.result.tried c.new-progress.ensures.tried);
   order =
       let adds = subst (λ (l : List (List ℕ)). AddsChildren c.root_of-path.result l c.come.new.progress.pending) c.new-progress.ensures.pending c.in_ok-come.ensures.adds in
-      order_step c.root_of-path.result [] c.come.new.progress.pending (g.V.Voucher.floor c.args.voucher.now) (g.V.Voucher.floor c.come.new.voucher) adds c.in_ok-come.ensures.floor (order_begin c.root_of-path.result (g.V.Voucher.floor c.args.voucher.now) c.requires.floor);
+      order_step c.root_of-path.result [] c.come.new.progress.pending adds (tt, tt);
   low =
       let adds = subst (λ (l : List (List ℕ)). AddsChildren c.root_of-path.result l c.come.new.progress.pending) c.new-progress.ensures.pending c.in_ok-come.ensures.adds in
       low_step c.root_of-path.result [] c.come.new.progress.pending adds tt;
   keeps =
       let adds = subst (λ (l : List (List ℕ)). AddsChildren c.root_of-path.result l c.come.new.progress.pending) c.new-progress.ensures.pending c.in_ok-come.ensures.adds in
-      keeps_begin c.root_of-path.result c.come.new.progress.pending (g.V.Voucher.records c.args.voucher.now) (g.V.Voucher.records c.come.new.voucher) (g.V.Voucher.whole c.args.voucher.now) (g.V.Voucher.whole c.come.new.voucher) adds c.in_ok-come.ensures.leaves;
-  fewer = c.in_ok-come.ensures.leaves.some;
+      keeps_begin c.root_of-path.result c.come.new.progress.pending (g.V.Voucher.records c.args.voucher.now) (g.V.Voucher.records c.come.new.voucher) (g.V.Voucher.ordered c.args.voucher.now) (g.V.Voucher.unbroken c.come.new.voucher) adds c.in_ok-come.ensures.leaves;
+  fewer = fewer_left c.root_of-path.result (g.V.Voucher.records c.args.voucher.now) (g.V.Voucher.records c.args.voucher.now) _ _ _ (fewer_same (g.V.Voucher.records c.args.voucher.now)) c.in_ok-come.ensures.leaves;
+  ordered = c.in_ok-come.ensures.ordered;
   sound = c.in_ok-come.ensures.sound;
   tried = c.in_ok-come.ensures.within;
   counted = c.in_ok-come.ensures.counted;
@@ -88,34 +81,34 @@ walk-preserved g c = record {
       let pend : c.walk.progress.pending ≡ c.pop.new.into ∷ c.pop.new.self = when_true c.pop.result (c.walk.progress.pending ≡ c.pop.new.into ∷ c.pop.new.self) (c.walk.progress.pending ≡ []) c.walk-test.true c.pop.ensures.popped in
       let told2 = g.met.T.Tree.keeps_dirs _ _ c.walk.invariant.kept ∙ told in
       let s = c.walk.invariant.told dirs told honest in
-      let relied = step_relied dirs (plan_of c.args.rules.now) c.pop.new.into c.pop.new.self c.walk.progress.pending (g.V.Voucher.records c.walk.voucher) (g.V.Voucher.records c.args.voucher.now) (Stands (plan_of c.args.rules.now) c.args.now (record { taken = g.D.Sink.taken c.args.sink.now; echoed = g.P.Sink.taken c.args.echo.now; stats = g.T.Tree.stats c.args.tree.now + (if g.T.Tree.priced c.args.tree.now c.args.rules.now.root then 1 else 0); openings = g.T.Tree.openings c.args.tree.now; records = g.V.Voucher.records c.args.voucher.now; priced = g.T.Tree.priced c.args.tree.now; names = c.args.limits.now.names }) (record { standing = standing (g.D.Sink.taken c.walk.sink) (g.P.Sink.taken c.walk.echo) c.walk.progress; stats = g.T.Tree.stats c.walk.tree; openings = g.T.Tree.openings c.walk.tree; whole = g.V.Voucher.whole c.walk.voucher })) c.walk.invariant.fewer honest fits pend s in
-      let order = subst (InOrder (g.V.Voucher.floor c.walk.voucher)) pend c.walk.invariant.order in
-      let keeps = subst (Keeps (g.V.Voucher.records c.args.voucher.now) (g.V.Voucher.records c.walk.voucher) (g.V.Voucher.whole c.walk.voucher)) pend c.walk.invariant.keeps in
+      let relied = step_relied dirs (plan_of c.args.rules.now) c.pop.new.into c.pop.new.self c.walk.progress.pending (g.V.Voucher.records c.walk.voucher) (g.V.Voucher.records c.args.voucher.now) (Stands (plan_of c.args.rules.now) c.args.now (record { taken = g.D.Sink.taken c.args.sink.now; echoed = g.P.Sink.taken c.args.echo.now; stats = g.T.Tree.stats c.args.tree.now + (if g.T.Tree.priced c.args.tree.now c.args.rules.now.root then 1 else 0); openings = g.T.Tree.openings c.args.tree.now; records = known (g.V.Voucher.records c.args.voucher.now); priced = g.T.Tree.priced c.args.tree.now; names = c.args.limits.now.names }) (record { standing = standing (g.D.Sink.taken c.walk.sink) (g.P.Sink.taken c.walk.echo) c.walk.progress; stats = g.T.Tree.stats c.walk.tree; openings = g.T.Tree.openings c.walk.tree; whole = answers_all (g.V.Voucher.records c.args.voucher.now) (g.V.Voucher.ordered c.args.voucher.now) (g.V.Voucher.unbroken c.walk.voucher) })) c.walk.invariant.fewer honest fits pend s in
+      let order = subst (Rises Apart) pend c.walk.invariant.order in
+      let keeps = subst (Keeps (known (g.V.Voucher.records c.args.voucher.now)) (known (g.V.Voucher.records c.walk.voucher)) (answers_all (g.V.Voucher.records c.args.voucher.now) (g.V.Voucher.ordered c.args.voucher.now) (g.V.Voucher.unbroken c.walk.voucher))) pend c.walk.invariant.keeps in
       let priced : weight (plan_of c.args.rules.now).pruned (g.T.Tree.priced c.walk.tree) (c.pop.new.into ∷ []) ≡ weight (plan_of c.args.rules.now).pruned (g.T.Tree.priced c.args.tree.now) (c.pop.new.into ∷ []) = λ i. weight (plan_of c.args.rules.now).pruned (λ p. g.met.T.Tree.keeps_priced _ _ p c.walk.invariant.kept i) (c.pop.new.into ∷ []) in
       let looks : g.T.Tree.stats c.step.new.tree ≤ g.T.Tree.stats c.walk.tree + weight (plan_of c.args.rules.now).pruned (g.T.Tree.priced c.args.tree.now) (c.pop.new.into ∷ []) = omega (arith, priced, c.in_ok-step.ensures.stats) in
       let passes = c.in_ok-step.ensures.done dirs told2 relied in
-      let counts : Counts dirs (plan_of c.args.rules.now) (record { taken = g.D.Sink.taken c.args.sink.now; echoed = g.P.Sink.taken c.args.echo.now; stats = g.T.Tree.stats c.args.tree.now + (if g.T.Tree.priced c.args.tree.now c.args.rules.now.root then 1 else 0); openings = g.T.Tree.openings c.args.tree.now; records = g.V.Voucher.records c.args.voucher.now; priced = g.T.Tree.priced c.args.tree.now; names = c.args.limits.now.names }) c.pop.new.into (record { standing = standing (g.D.Sink.taken c.walk.sink) (g.P.Sink.taken c.walk.echo) (record { pending = c.pop.new.self; tried = c.walk.progress.tried; counts = c.walk.progress.counts }); stats = g.T.Tree.stats c.walk.tree; openings = g.T.Tree.openings c.walk.tree; whole = g.V.Voucher.whole c.walk.voucher }) (record { standing = standing (g.D.Sink.taken c.step.new.sink) (g.P.Sink.taken c.step.new.echo) c.step.new.progress; stats = g.T.Tree.stats c.step.new.tree; openings = g.T.Tree.openings c.step.new.tree; whole = g.V.Voucher.whole c.step.new.voucher }) = record {
-        mark = c.in_ok-step.ensures.leaves.mark;
-        opened = λ w. c.in_ok-step.ensures.exact dirs told2 w ∙ ap (raised (g.T.Tree.openings c.walk.tree)) (opens_same dirs (plan_of c.args.rules.now) c.pop.new.into c.pop.new.self (g.V.Voucher.records c.walk.voucher) (g.V.Voucher.records c.args.voucher.now) (g.V.Voucher.whole c.walk.voucher) c.walk.invariant.fewer (c.in_ok-step.ensures.leaves.mark w) keeps);
+      let counts : Counts dirs (plan_of c.args.rules.now) (record { taken = g.D.Sink.taken c.args.sink.now; echoed = g.P.Sink.taken c.args.echo.now; stats = g.T.Tree.stats c.args.tree.now + (if g.T.Tree.priced c.args.tree.now c.args.rules.now.root then 1 else 0); openings = g.T.Tree.openings c.args.tree.now; records = known (g.V.Voucher.records c.args.voucher.now); priced = g.T.Tree.priced c.args.tree.now; names = c.args.limits.now.names }) c.pop.new.into (record { standing = standing (g.D.Sink.taken c.walk.sink) (g.P.Sink.taken c.walk.echo) (record { pending = c.pop.new.self; tried = c.walk.progress.tried; counts = c.walk.progress.counts }); stats = g.T.Tree.stats c.walk.tree; openings = g.T.Tree.openings c.walk.tree; whole = answers_all (g.V.Voucher.records c.args.voucher.now) (g.V.Voucher.ordered c.args.voucher.now) (g.V.Voucher.unbroken c.walk.voucher) }) (record { standing = standing (g.D.Sink.taken c.step.new.sink) (g.P.Sink.taken c.step.new.echo) c.step.new.progress; stats = g.T.Tree.stats c.step.new.tree; openings = g.T.Tree.openings c.step.new.tree; whole = answers_all (g.V.Voucher.records c.args.voucher.now) (g.V.Voucher.ordered c.args.voucher.now) (g.V.Voucher.unbroken c.step.new.voucher) }) = record {
+        mark = mark_before (g.V.Voucher.records c.args.voucher.now) (g.V.Voucher.ordered c.args.voucher.now) _ _ c.in_ok-step.ensures.unbroken;
+        opened = λ w. c.in_ok-step.ensures.exact dirs told2 (mark_now (g.V.Voucher.records c.args.voucher.now) (g.V.Voucher.records c.walk.voucher) (g.V.Voucher.ordered c.args.voucher.now) _ _ c.walk.invariant.fewer c.walk.invariant.ordered w) ∙ ap (raised (g.T.Tree.openings c.walk.tree)) (opens_same dirs (plan_of c.args.rules.now) c.pop.new.into c.pop.new.self (known (g.V.Voucher.records c.walk.voucher)) (known (g.V.Voucher.records c.args.voucher.now)) (answers_all (g.V.Voucher.records c.args.voucher.now) (g.V.Voucher.ordered c.args.voucher.now) (g.V.Voucher.unbroken c.walk.voucher)) (fewer_known (g.V.Voucher.records c.args.voucher.now) (g.V.Voucher.records c.walk.voucher) (honest_known _ dirs (plan_of c.args.rules.now) honest) c.walk.invariant.fewer) (mark_before (g.V.Voucher.records c.args.voucher.now) (g.V.Voucher.ordered c.args.voucher.now) _ _ c.in_ok-step.ensures.unbroken w) keeps);
         few = omega (arith, c.in_ok-step.ensures.within, c.requires.directories);
         adds = c.in_ok-step.ensures.adds;
-        narrow = narrow_entry c.args.limits.now.names (g.V.Voucher.records c.walk.voucher) (g.V.Voucher.records c.args.voucher.now) dirs (plan_of c.args.rules.now) c.pop.new.into c.walk.invariant.fewer (c.in_ok-step.ensures.kept_limit dirs told2);
+        narrow = narrow_entry c.args.limits.now.names (known (g.V.Voucher.records c.walk.voucher)) (known (g.V.Voucher.records c.args.voucher.now)) dirs (plan_of c.args.rules.now) c.pop.new.into (fewer_known (g.V.Voucher.records c.args.voucher.now) (g.V.Voucher.records c.walk.voucher) (honest_known _ dirs (plan_of c.args.rules.now) honest) c.walk.invariant.fewer) (c.in_ok-step.ensures.kept_limit (some_now (g.V.Voucher.records c.args.voucher.now) (g.V.Voucher.records c.walk.voucher) (honest_known _ dirs (plan_of c.args.rules.now) honest) c.walk.invariant.fewer) dirs told2);
       } in
-      split_step dirs (plan_of c.args.rules.now).pruned (plan_of c.args.rules.now).root c.pop.new.into c.pop.new.self c.walk.progress.pending c.step.new.progress.pending (Stands (plan_of c.args.rules.now) c.args.now (record { taken = g.D.Sink.taken c.args.sink.now; echoed = g.P.Sink.taken c.args.echo.now; stats = g.T.Tree.stats c.args.tree.now + (if g.T.Tree.priced c.args.tree.now c.args.rules.now.root then 1 else 0); openings = g.T.Tree.openings c.args.tree.now; records = g.V.Voucher.records c.args.voucher.now; priced = g.T.Tree.priced c.args.tree.now; names = c.args.limits.now.names }) (record { standing = standing (g.D.Sink.taken c.walk.sink) (g.P.Sink.taken c.walk.echo) c.walk.progress; stats = g.T.Tree.stats c.walk.tree; openings = g.T.Tree.openings c.walk.tree; whole = g.V.Voucher.whole c.walk.voucher })) (Stands (plan_of c.args.rules.now) c.args.now (record { taken = g.D.Sink.taken c.args.sink.now; echoed = g.P.Sink.taken c.args.echo.now; stats = g.T.Tree.stats c.args.tree.now + (if g.T.Tree.priced c.args.tree.now c.args.rules.now.root then 1 else 0); openings = g.T.Tree.openings c.args.tree.now; records = g.V.Voucher.records c.args.voucher.now; priced = g.T.Tree.priced c.args.tree.now; names = c.args.limits.now.names }) (record { standing = standing (g.D.Sink.taken c.step.new.sink) (g.P.Sink.taken c.step.new.echo) c.step.new.progress; stats = g.T.Tree.stats c.step.new.tree; openings = g.T.Tree.openings c.step.new.tree; whole = g.V.Voucher.whole c.step.new.voucher })) fits pend passes.pending
-      (λ done went st. stands_step dirs (plan_of c.args.rules.now) c.args.now (record { taken = g.D.Sink.taken c.args.sink.now; echoed = g.P.Sink.taken c.args.echo.now; stats = g.T.Tree.stats c.args.tree.now + (if g.T.Tree.priced c.args.tree.now c.args.rules.now.root then 1 else 0); openings = g.T.Tree.openings c.args.tree.now; records = g.V.Voucher.records c.args.voucher.now; priced = g.T.Tree.priced c.args.tree.now; names = c.args.limits.now.names }) c.pop.new.into c.pop.new.self (record { standing = standing (g.D.Sink.taken c.walk.sink) (g.P.Sink.taken c.walk.echo) (record { pending = c.pop.new.self; tried = c.walk.progress.tried; counts = c.walk.progress.counts }); stats = g.T.Tree.stats c.walk.tree; openings = g.T.Tree.openings c.walk.tree; whole = g.V.Voucher.whole c.walk.voucher }) (record { standing = standing (g.D.Sink.taken c.step.new.sink) (g.P.Sink.taken c.step.new.echo) c.step.new.progress; stats = g.T.Tree.stats c.step.new.tree; openings = g.T.Tree.openings c.step.new.tree; whole = g.V.Voucher.whole c.step.new.voucher }) done went refl order.rise passes counts
-      (subst (λ (l : List (List ℕ)). Stands (plan_of c.args.rules.now) c.args.now (record { taken = g.D.Sink.taken c.args.sink.now; echoed = g.P.Sink.taken c.args.echo.now; stats = g.T.Tree.stats c.args.tree.now + (if g.T.Tree.priced c.args.tree.now c.args.rules.now.root then 1 else 0); openings = g.T.Tree.openings c.args.tree.now; records = g.V.Voucher.records c.args.voucher.now; priced = g.T.Tree.priced c.args.tree.now; names = c.args.limits.now.names }) (record { standing = standing (g.D.Sink.taken c.walk.sink) (g.P.Sink.taken c.walk.echo) (record { pending = l; tried = c.walk.progress.tried; counts = c.walk.progress.counts }); stats = g.T.Tree.stats c.walk.tree; openings = g.T.Tree.openings c.walk.tree; whole = g.V.Voucher.whole c.walk.voucher }) done went) pend st) looks) s;
+      split_step dirs (plan_of c.args.rules.now).pruned (plan_of c.args.rules.now).root c.pop.new.into c.pop.new.self c.walk.progress.pending c.step.new.progress.pending (Stands (plan_of c.args.rules.now) c.args.now (record { taken = g.D.Sink.taken c.args.sink.now; echoed = g.P.Sink.taken c.args.echo.now; stats = g.T.Tree.stats c.args.tree.now + (if g.T.Tree.priced c.args.tree.now c.args.rules.now.root then 1 else 0); openings = g.T.Tree.openings c.args.tree.now; records = known (g.V.Voucher.records c.args.voucher.now); priced = g.T.Tree.priced c.args.tree.now; names = c.args.limits.now.names }) (record { standing = standing (g.D.Sink.taken c.walk.sink) (g.P.Sink.taken c.walk.echo) c.walk.progress; stats = g.T.Tree.stats c.walk.tree; openings = g.T.Tree.openings c.walk.tree; whole = answers_all (g.V.Voucher.records c.args.voucher.now) (g.V.Voucher.ordered c.args.voucher.now) (g.V.Voucher.unbroken c.walk.voucher) })) (Stands (plan_of c.args.rules.now) c.args.now (record { taken = g.D.Sink.taken c.args.sink.now; echoed = g.P.Sink.taken c.args.echo.now; stats = g.T.Tree.stats c.args.tree.now + (if g.T.Tree.priced c.args.tree.now c.args.rules.now.root then 1 else 0); openings = g.T.Tree.openings c.args.tree.now; records = known (g.V.Voucher.records c.args.voucher.now); priced = g.T.Tree.priced c.args.tree.now; names = c.args.limits.now.names }) (record { standing = standing (g.D.Sink.taken c.step.new.sink) (g.P.Sink.taken c.step.new.echo) c.step.new.progress; stats = g.T.Tree.stats c.step.new.tree; openings = g.T.Tree.openings c.step.new.tree; whole = answers_all (g.V.Voucher.records c.args.voucher.now) (g.V.Voucher.ordered c.args.voucher.now) (g.V.Voucher.unbroken c.step.new.voucher) })) fits pend passes.pending
+      (λ done went st. stands_step dirs (plan_of c.args.rules.now) c.args.now (record { taken = g.D.Sink.taken c.args.sink.now; echoed = g.P.Sink.taken c.args.echo.now; stats = g.T.Tree.stats c.args.tree.now + (if g.T.Tree.priced c.args.tree.now c.args.rules.now.root then 1 else 0); openings = g.T.Tree.openings c.args.tree.now; records = known (g.V.Voucher.records c.args.voucher.now); priced = g.T.Tree.priced c.args.tree.now; names = c.args.limits.now.names }) c.pop.new.into c.pop.new.self (record { standing = standing (g.D.Sink.taken c.walk.sink) (g.P.Sink.taken c.walk.echo) (record { pending = c.pop.new.self; tried = c.walk.progress.tried; counts = c.walk.progress.counts }); stats = g.T.Tree.stats c.walk.tree; openings = g.T.Tree.openings c.walk.tree; whole = answers_all (g.V.Voucher.records c.args.voucher.now) (g.V.Voucher.ordered c.args.voucher.now) (g.V.Voucher.unbroken c.walk.voucher) }) (record { standing = standing (g.D.Sink.taken c.step.new.sink) (g.P.Sink.taken c.step.new.echo) c.step.new.progress; stats = g.T.Tree.stats c.step.new.tree; openings = g.T.Tree.openings c.step.new.tree; whole = answers_all (g.V.Voucher.records c.args.voucher.now) (g.V.Voucher.ordered c.args.voucher.now) (g.V.Voucher.unbroken c.step.new.voucher) }) done went refl order passes counts
+      (subst (λ (l : List (List ℕ)). Stands (plan_of c.args.rules.now) c.args.now (record { taken = g.D.Sink.taken c.args.sink.now; echoed = g.P.Sink.taken c.args.echo.now; stats = g.T.Tree.stats c.args.tree.now + (if g.T.Tree.priced c.args.tree.now c.args.rules.now.root then 1 else 0); openings = g.T.Tree.openings c.args.tree.now; records = known (g.V.Voucher.records c.args.voucher.now); priced = g.T.Tree.priced c.args.tree.now; names = c.args.limits.now.names }) (record { standing = standing (g.D.Sink.taken c.walk.sink) (g.P.Sink.taken c.walk.echo) (record { pending = l; tried = c.walk.progress.tried; counts = c.walk.progress.counts }); stats = g.T.Tree.stats c.walk.tree; openings = g.T.Tree.openings c.walk.tree; whole = answers_all (g.V.Voucher.records c.args.voucher.now) (g.V.Voucher.ordered c.args.voucher.now) (g.V.Voucher.unbroken c.walk.voucher) }) done went) pend st) looks) s;
   there = c.walk.invariant.there;
   visited = λ dirs told.
       let pend : c.walk.progress.pending ≡ c.pop.new.into ∷ c.pop.new.self = when_true c.pop.result (c.walk.progress.pending ≡ c.pop.new.into ∷ c.pop.new.self) (c.walk.progress.pending ≡ []) c.walk-test.true c.pop.ensures.popped in
       let told2 = g.met.T.Tree.keeps_dirs _ _ c.walk.invariant.kept ∙ told in
-      let order = subst (InOrder (g.V.Voucher.floor c.walk.voucher)) pend c.walk.invariant.order in
-      visited_step dirs (is_tried (plan_of c.args.rules.now).pruned) c.pop.new.into c.pop.new.self c.step.new.progress.pending c.walk.progress.tried c.step.new.progress.tried c.in_ok-step.ensures.adds order.rise (c.in_ok-step.ensures.seen dirs told2)
+      let order = subst (Rises Apart) pend c.walk.invariant.order in
+      visited_step dirs (is_tried (plan_of c.args.rules.now).pruned) c.pop.new.into c.pop.new.self c.step.new.progress.pending c.walk.progress.tried c.step.new.progress.tried c.in_ok-step.ensures.adds order (c.in_ok-step.ensures.seen dirs told2)
       (subst (λ (l : List (List ℕ)). Visited dirs l c.walk.progress.tried) pend (c.walk.invariant.visited dirs told));
   order =
       let fits = normal_fits c.pop.new.into (c.pop.ensures.normal c.walk-test.true) in
       let pend : c.walk.progress.pending ≡ c.pop.new.into ∷ c.pop.new.self = when_true c.pop.result (c.walk.progress.pending ≡ c.pop.new.into ∷ c.pop.new.self) (c.walk.progress.pending ≡ []) c.walk-test.true c.pop.ensures.popped in
-      let order = subst (InOrder (g.V.Voucher.floor c.walk.voucher)) pend c.walk.invariant.order in
-      order_step c.pop.new.into c.pop.new.self c.step.new.progress.pending (g.V.Voucher.floor c.walk.voucher) (g.V.Voucher.floor c.step.new.voucher) c.in_ok-step.ensures.adds c.in_ok-step.ensures.floor order;
+      let order = subst (Rises Apart) pend c.walk.invariant.order in
+      order_step c.pop.new.into c.pop.new.self c.step.new.progress.pending c.in_ok-step.ensures.adds order;
   low =
       let fits = normal_fits c.pop.new.into (c.pop.ensures.normal c.walk-test.true) in
       let pend : c.walk.progress.pending ≡ c.pop.new.into ∷ c.pop.new.self = when_true c.pop.result (c.walk.progress.pending ≡ c.pop.new.into ∷ c.pop.new.self) (c.walk.progress.pending ≡ []) c.walk-test.true c.pop.ensures.popped in
@@ -124,11 +117,12 @@ walk-preserved g c = record {
   keeps =
       let fits = normal_fits c.pop.new.into (c.pop.ensures.normal c.walk-test.true) in
       let pend : c.walk.progress.pending ≡ c.pop.new.into ∷ c.pop.new.self = when_true c.pop.result (c.walk.progress.pending ≡ c.pop.new.into ∷ c.pop.new.self) (c.walk.progress.pending ≡ []) c.walk-test.true c.pop.ensures.popped in
-      let order = subst (InOrder (g.V.Voucher.floor c.walk.voucher)) pend c.walk.invariant.order in
+      let order = subst (Rises Apart) pend c.walk.invariant.order in
       let low = subst Low pend c.walk.invariant.low in
-      let keeps = subst (Keeps (g.V.Voucher.records c.args.voucher.now) (g.V.Voucher.records c.walk.voucher) (g.V.Voucher.whole c.walk.voucher)) pend c.walk.invariant.keeps in
-      keeps_step c.pop.new.into c.pop.new.self c.step.new.progress.pending (g.V.Voucher.records c.args.voucher.now) (g.V.Voucher.records c.walk.voucher) (g.V.Voucher.records c.step.new.voucher) (g.V.Voucher.whole c.walk.voucher) (g.V.Voucher.whole c.step.new.voucher) low.0 order.rise c.in_ok-step.ensures.adds c.in_ok-step.ensures.leaves keeps;
-  fewer = λ r h. c.walk.invariant.fewer r (c.in_ok-step.ensures.leaves.some r h);
+      let keeps = subst (Keeps (known (g.V.Voucher.records c.args.voucher.now)) (known (g.V.Voucher.records c.walk.voucher)) (answers_all (g.V.Voucher.records c.args.voucher.now) (g.V.Voucher.ordered c.args.voucher.now) (g.V.Voucher.unbroken c.walk.voucher))) pend c.walk.invariant.keeps in
+      keeps_step c.pop.new.into c.pop.new.self c.step.new.progress.pending (g.V.Voucher.records c.args.voucher.now) (g.V.Voucher.records c.walk.voucher) (g.V.Voucher.records c.step.new.voucher) (g.V.Voucher.ordered c.args.voucher.now) (g.V.Voucher.ordered c.walk.voucher) (g.V.Voucher.unbroken c.walk.voucher) (g.V.Voucher.unbroken c.step.new.voucher) low.0 order c.in_ok-step.ensures.adds c.walk.invariant.fewer c.walk.invariant.ordered c.in_ok-step.ensures.unbroken c.in_ok-step.ensures.leaves keeps;
+  fewer = fewer_left c.pop.new.into (g.V.Voucher.records c.args.voucher.now) (g.V.Voucher.records c.walk.voucher) _ _ _ c.walk.invariant.fewer c.in_ok-step.ensures.leaves;
+  ordered = λ o. c.in_ok-step.ensures.ordered (c.walk.invariant.ordered o);
   sound = c.in_ok-step.ensures.sound;
   tried = c.in_ok-step.ensures.within;
   counted = c.in_ok-step.ensures.counted;
@@ -145,42 +139,42 @@ walk-preserved g c = record {
 
 pub returns-clause-done : goal.returns-clause-done
 returns-clause-done g c = λ dirs told honest.
-    let all = split_end dirs (plan_of c.args.rules.now).pruned (plan_of c.args.rules.now).root c.walk.progress.pending (Stands (plan_of c.args.rules.now) c.args.now (record { taken = g.D.Sink.taken c.args.sink.now; echoed = g.P.Sink.taken c.args.echo.now; stats = g.T.Tree.stats c.args.tree.now + (if g.T.Tree.priced c.args.tree.now c.args.rules.now.root then 1 else 0); openings = g.T.Tree.openings c.args.tree.now; records = g.V.Voucher.records c.args.voucher.now; priced = g.T.Tree.priced c.args.tree.now; names = c.args.limits.now.names }) (record { standing = standing (g.D.Sink.taken c.walk.sink) (g.P.Sink.taken c.walk.echo) c.walk.progress; stats = g.T.Tree.stats c.walk.tree; openings = g.T.Tree.openings c.walk.tree; whole = g.V.Voucher.whole c.walk.voucher })) (when_false c.pop.result (c.walk.progress.pending ≡ c.pop.new.into ∷ c.pop.new.self) (c.walk.progress.pending ≡ []) c.walk-test.false c.pop.ensures.popped) (c.walk.invariant.told dirs told honest) in
+    let all = split_end dirs (plan_of c.args.rules.now).pruned (plan_of c.args.rules.now).root c.walk.progress.pending (Stands (plan_of c.args.rules.now) c.args.now (record { taken = g.D.Sink.taken c.args.sink.now; echoed = g.P.Sink.taken c.args.echo.now; stats = g.T.Tree.stats c.args.tree.now + (if g.T.Tree.priced c.args.tree.now c.args.rules.now.root then 1 else 0); openings = g.T.Tree.openings c.args.tree.now; records = known (g.V.Voucher.records c.args.voucher.now); priced = g.T.Tree.priced c.args.tree.now; names = c.args.limits.now.names }) (record { standing = standing (g.D.Sink.taken c.walk.sink) (g.P.Sink.taken c.walk.echo) c.walk.progress; stats = g.T.Tree.stats c.walk.tree; openings = g.T.Tree.openings c.walk.tree; whole = answers_all (g.V.Voucher.records c.args.voucher.now) (g.V.Voucher.ordered c.args.voucher.now) (g.V.Voucher.unbroken c.walk.voucher) })) (when_false c.pop.result (c.walk.progress.pending ≡ c.pop.new.into ∷ c.pop.new.self) (c.walk.progress.pending ≡ []) c.walk-test.false c.pop.ensures.popped) (c.walk.invariant.told dirs told honest) in
     all.taken
 
 pub returns-clause-echoed : goal.returns-clause-echoed
 returns-clause-echoed g c = λ dirs told honest.
-    let all = split_end dirs (plan_of c.args.rules.now).pruned (plan_of c.args.rules.now).root c.walk.progress.pending (Stands (plan_of c.args.rules.now) c.args.now (record { taken = g.D.Sink.taken c.args.sink.now; echoed = g.P.Sink.taken c.args.echo.now; stats = g.T.Tree.stats c.args.tree.now + (if g.T.Tree.priced c.args.tree.now c.args.rules.now.root then 1 else 0); openings = g.T.Tree.openings c.args.tree.now; records = g.V.Voucher.records c.args.voucher.now; priced = g.T.Tree.priced c.args.tree.now; names = c.args.limits.now.names }) (record { standing = standing (g.D.Sink.taken c.walk.sink) (g.P.Sink.taken c.walk.echo) c.walk.progress; stats = g.T.Tree.stats c.walk.tree; openings = g.T.Tree.openings c.walk.tree; whole = g.V.Voucher.whole c.walk.voucher })) (when_false c.pop.result (c.walk.progress.pending ≡ c.pop.new.into ∷ c.pop.new.self) (c.walk.progress.pending ≡ []) c.walk-test.false c.pop.ensures.popped) (c.walk.invariant.told dirs told honest) in
+    let all = split_end dirs (plan_of c.args.rules.now).pruned (plan_of c.args.rules.now).root c.walk.progress.pending (Stands (plan_of c.args.rules.now) c.args.now (record { taken = g.D.Sink.taken c.args.sink.now; echoed = g.P.Sink.taken c.args.echo.now; stats = g.T.Tree.stats c.args.tree.now + (if g.T.Tree.priced c.args.tree.now c.args.rules.now.root then 1 else 0); openings = g.T.Tree.openings c.args.tree.now; records = known (g.V.Voucher.records c.args.voucher.now); priced = g.T.Tree.priced c.args.tree.now; names = c.args.limits.now.names }) (record { standing = standing (g.D.Sink.taken c.walk.sink) (g.P.Sink.taken c.walk.echo) c.walk.progress; stats = g.T.Tree.stats c.walk.tree; openings = g.T.Tree.openings c.walk.tree; whole = answers_all (g.V.Voucher.records c.args.voucher.now) (g.V.Voucher.ordered c.args.voucher.now) (g.V.Voucher.unbroken c.walk.voucher) })) (when_false c.pop.result (c.walk.progress.pending ≡ c.pop.new.into ∷ c.pop.new.self) (c.walk.progress.pending ≡ []) c.walk-test.false c.pop.ensures.popped) (c.walk.invariant.told dirs told honest) in
     all.echoed
 
 pub returns-clause-counts : goal.returns-clause-counts
 returns-clause-counts g c = λ dirs told honest.
-    let all = split_end dirs (plan_of c.args.rules.now).pruned (plan_of c.args.rules.now).root c.walk.progress.pending (Stands (plan_of c.args.rules.now) c.args.now (record { taken = g.D.Sink.taken c.args.sink.now; echoed = g.P.Sink.taken c.args.echo.now; stats = g.T.Tree.stats c.args.tree.now + (if g.T.Tree.priced c.args.tree.now c.args.rules.now.root then 1 else 0); openings = g.T.Tree.openings c.args.tree.now; records = g.V.Voucher.records c.args.voucher.now; priced = g.T.Tree.priced c.args.tree.now; names = c.args.limits.now.names }) (record { standing = standing (g.D.Sink.taken c.walk.sink) (g.P.Sink.taken c.walk.echo) c.walk.progress; stats = g.T.Tree.stats c.walk.tree; openings = g.T.Tree.openings c.walk.tree; whole = g.V.Voucher.whole c.walk.voucher })) (when_false c.pop.result (c.walk.progress.pending ≡ c.pop.new.into ∷ c.pop.new.self) (c.walk.progress.pending ≡ []) c.walk-test.false c.pop.ensures.popped) (c.walk.invariant.told dirs told honest) in
+    let all = split_end dirs (plan_of c.args.rules.now).pruned (plan_of c.args.rules.now).root c.walk.progress.pending (Stands (plan_of c.args.rules.now) c.args.now (record { taken = g.D.Sink.taken c.args.sink.now; echoed = g.P.Sink.taken c.args.echo.now; stats = g.T.Tree.stats c.args.tree.now + (if g.T.Tree.priced c.args.tree.now c.args.rules.now.root then 1 else 0); openings = g.T.Tree.openings c.args.tree.now; records = known (g.V.Voucher.records c.args.voucher.now); priced = g.T.Tree.priced c.args.tree.now; names = c.args.limits.now.names }) (record { standing = standing (g.D.Sink.taken c.walk.sink) (g.P.Sink.taken c.walk.echo) c.walk.progress; stats = g.T.Tree.stats c.walk.tree; openings = g.T.Tree.openings c.walk.tree; whole = answers_all (g.V.Voucher.records c.args.voucher.now) (g.V.Voucher.ordered c.args.voucher.now) (g.V.Voucher.unbroken c.walk.voucher) })) (when_false c.pop.result (c.walk.progress.pending ≡ c.pop.new.into ∷ c.pop.new.self) (c.walk.progress.pending ≡ []) c.walk-test.false c.pop.ensures.popped) (c.walk.invariant.told dirs told honest) in
     (all.blocks, all.entries)
 
 pub returns-clause-few : goal.returns-clause-few
 returns-clause-few g c = λ dirs told honest.
-    let all = split_end dirs (plan_of c.args.rules.now).pruned (plan_of c.args.rules.now).root c.walk.progress.pending (Stands (plan_of c.args.rules.now) c.args.now (record { taken = g.D.Sink.taken c.args.sink.now; echoed = g.P.Sink.taken c.args.echo.now; stats = g.T.Tree.stats c.args.tree.now + (if g.T.Tree.priced c.args.tree.now c.args.rules.now.root then 1 else 0); openings = g.T.Tree.openings c.args.tree.now; records = g.V.Voucher.records c.args.voucher.now; priced = g.T.Tree.priced c.args.tree.now; names = c.args.limits.now.names }) (record { standing = standing (g.D.Sink.taken c.walk.sink) (g.P.Sink.taken c.walk.echo) c.walk.progress; stats = g.T.Tree.stats c.walk.tree; openings = g.T.Tree.openings c.walk.tree; whole = g.V.Voucher.whole c.walk.voucher })) (when_false c.pop.result (c.walk.progress.pending ≡ c.pop.new.into ∷ c.pop.new.self) (c.walk.progress.pending ≡ []) c.walk-test.false c.pop.ensures.popped) (c.walk.invariant.told dirs told honest) in
+    let all = split_end dirs (plan_of c.args.rules.now).pruned (plan_of c.args.rules.now).root c.walk.progress.pending (Stands (plan_of c.args.rules.now) c.args.now (record { taken = g.D.Sink.taken c.args.sink.now; echoed = g.P.Sink.taken c.args.echo.now; stats = g.T.Tree.stats c.args.tree.now + (if g.T.Tree.priced c.args.tree.now c.args.rules.now.root then 1 else 0); openings = g.T.Tree.openings c.args.tree.now; records = known (g.V.Voucher.records c.args.voucher.now); priced = g.T.Tree.priced c.args.tree.now; names = c.args.limits.now.names }) (record { standing = standing (g.D.Sink.taken c.walk.sink) (g.P.Sink.taken c.walk.echo) c.walk.progress; stats = g.T.Tree.stats c.walk.tree; openings = g.T.Tree.openings c.walk.tree; whole = answers_all (g.V.Voucher.records c.args.voucher.now) (g.V.Voucher.ordered c.args.voucher.now) (g.V.Voucher.unbroken c.walk.voucher) })) (when_false c.pop.result (c.walk.progress.pending ≡ c.pop.new.into ∷ c.pop.new.self) (c.walk.progress.pending ≡ []) c.walk-test.false c.pop.ensures.popped) (c.walk.invariant.told dirs told honest) in
     omega (arith, all.tried, c.walk.invariant.tried)
 
 pub returns-clause-stats : goal.returns-clause-stats
 returns-clause-stats g c = λ dirs told honest.
-    let all = split_end dirs (plan_of c.args.rules.now).pruned (plan_of c.args.rules.now).root c.walk.progress.pending (Stands (plan_of c.args.rules.now) c.args.now (record { taken = g.D.Sink.taken c.args.sink.now; echoed = g.P.Sink.taken c.args.echo.now; stats = g.T.Tree.stats c.args.tree.now + (if g.T.Tree.priced c.args.tree.now c.args.rules.now.root then 1 else 0); openings = g.T.Tree.openings c.args.tree.now; records = g.V.Voucher.records c.args.voucher.now; priced = g.T.Tree.priced c.args.tree.now; names = c.args.limits.now.names }) (record { standing = standing (g.D.Sink.taken c.walk.sink) (g.P.Sink.taken c.walk.echo) c.walk.progress; stats = g.T.Tree.stats c.walk.tree; openings = g.T.Tree.openings c.walk.tree; whole = g.V.Voucher.whole c.walk.voucher })) (when_false c.pop.result (c.walk.progress.pending ≡ c.pop.new.into ∷ c.pop.new.self) (c.walk.progress.pending ≡ []) c.walk-test.false c.pop.ensures.popped) (c.walk.invariant.told dirs told honest) in
+    let all = split_end dirs (plan_of c.args.rules.now).pruned (plan_of c.args.rules.now).root c.walk.progress.pending (Stands (plan_of c.args.rules.now) c.args.now (record { taken = g.D.Sink.taken c.args.sink.now; echoed = g.P.Sink.taken c.args.echo.now; stats = g.T.Tree.stats c.args.tree.now + (if g.T.Tree.priced c.args.tree.now c.args.rules.now.root then 1 else 0); openings = g.T.Tree.openings c.args.tree.now; records = known (g.V.Voucher.records c.args.voucher.now); priced = g.T.Tree.priced c.args.tree.now; names = c.args.limits.now.names }) (record { standing = standing (g.D.Sink.taken c.walk.sink) (g.P.Sink.taken c.walk.echo) c.walk.progress; stats = g.T.Tree.stats c.walk.tree; openings = g.T.Tree.openings c.walk.tree; whole = answers_all (g.V.Voucher.records c.args.voucher.now) (g.V.Voucher.ordered c.args.voucher.now) (g.V.Voucher.unbroken c.walk.voucher) })) (when_false c.pop.result (c.walk.progress.pending ≡ c.pop.new.into ∷ c.pop.new.self) (c.walk.progress.pending ≡ []) c.walk-test.false c.pop.ensures.popped) (c.walk.invariant.told dirs told honest) in
     omega (arith, all.asked)
 
 pub returns-clause-opened : goal.returns-clause-opened
 returns-clause-opened g c = λ dirs told honest.
-    let all = split_end dirs (plan_of c.args.rules.now).pruned (plan_of c.args.rules.now).root c.walk.progress.pending (Stands (plan_of c.args.rules.now) c.args.now (record { taken = g.D.Sink.taken c.args.sink.now; echoed = g.P.Sink.taken c.args.echo.now; stats = g.T.Tree.stats c.args.tree.now + (if g.T.Tree.priced c.args.tree.now c.args.rules.now.root then 1 else 0); openings = g.T.Tree.openings c.args.tree.now; records = g.V.Voucher.records c.args.voucher.now; priced = g.T.Tree.priced c.args.tree.now; names = c.args.limits.now.names }) (record { standing = standing (g.D.Sink.taken c.walk.sink) (g.P.Sink.taken c.walk.echo) c.walk.progress; stats = g.T.Tree.stats c.walk.tree; openings = g.T.Tree.openings c.walk.tree; whole = g.V.Voucher.whole c.walk.voucher })) (when_false c.pop.result (c.walk.progress.pending ≡ c.pop.new.into ∷ c.pop.new.self) (c.walk.progress.pending ≡ []) c.walk-test.false c.pop.ensures.popped) (c.walk.invariant.told dirs told honest) in
+    let all = split_end dirs (plan_of c.args.rules.now).pruned (plan_of c.args.rules.now).root c.walk.progress.pending (Stands (plan_of c.args.rules.now) c.args.now (record { taken = g.D.Sink.taken c.args.sink.now; echoed = g.P.Sink.taken c.args.echo.now; stats = g.T.Tree.stats c.args.tree.now + (if g.T.Tree.priced c.args.tree.now c.args.rules.now.root then 1 else 0); openings = g.T.Tree.openings c.args.tree.now; records = known (g.V.Voucher.records c.args.voucher.now); priced = g.T.Tree.priced c.args.tree.now; names = c.args.limits.now.names }) (record { standing = standing (g.D.Sink.taken c.walk.sink) (g.P.Sink.taken c.walk.echo) c.walk.progress; stats = g.T.Tree.stats c.walk.tree; openings = g.T.Tree.openings c.walk.tree; whole = answers_all (g.V.Voucher.records c.args.voucher.now) (g.V.Voucher.ordered c.args.voucher.now) (g.V.Voucher.unbroken c.walk.voucher) })) (when_false c.pop.result (c.walk.progress.pending ≡ c.pop.new.into ∷ c.pop.new.self) (c.walk.progress.pending ≡ []) c.walk-test.false c.pop.ensures.popped) (c.walk.invariant.told dirs told honest) in
     omega (arith, all.tried, c.walk.invariant.openings)
 
 pub returns-clause-unvouched : goal.returns-clause-unvouched
 returns-clause-unvouched g c = λ dirs told honest w.
-    let all = split_end dirs (plan_of c.args.rules.now).pruned (plan_of c.args.rules.now).root c.walk.progress.pending (Stands (plan_of c.args.rules.now) c.args.now (record { taken = g.D.Sink.taken c.args.sink.now; echoed = g.P.Sink.taken c.args.echo.now; stats = g.T.Tree.stats c.args.tree.now + (if g.T.Tree.priced c.args.tree.now c.args.rules.now.root then 1 else 0); openings = g.T.Tree.openings c.args.tree.now; records = g.V.Voucher.records c.args.voucher.now; priced = g.T.Tree.priced c.args.tree.now; names = c.args.limits.now.names }) (record { standing = standing (g.D.Sink.taken c.walk.sink) (g.P.Sink.taken c.walk.echo) c.walk.progress; stats = g.T.Tree.stats c.walk.tree; openings = g.T.Tree.openings c.walk.tree; whole = g.V.Voucher.whole c.walk.voucher })) (when_false c.pop.result (c.walk.progress.pending ≡ c.pop.new.into ∷ c.pop.new.self) (c.walk.progress.pending ≡ []) c.walk-test.false c.pop.ensures.popped) (c.walk.invariant.told dirs told honest) in
+    let all = split_end dirs (plan_of c.args.rules.now).pruned (plan_of c.args.rules.now).root c.walk.progress.pending (Stands (plan_of c.args.rules.now) c.args.now (record { taken = g.D.Sink.taken c.args.sink.now; echoed = g.P.Sink.taken c.args.echo.now; stats = g.T.Tree.stats c.args.tree.now + (if g.T.Tree.priced c.args.tree.now c.args.rules.now.root then 1 else 0); openings = g.T.Tree.openings c.args.tree.now; records = known (g.V.Voucher.records c.args.voucher.now); priced = g.T.Tree.priced c.args.tree.now; names = c.args.limits.now.names }) (record { standing = standing (g.D.Sink.taken c.walk.sink) (g.P.Sink.taken c.walk.echo) c.walk.progress; stats = g.T.Tree.stats c.walk.tree; openings = g.T.Tree.openings c.walk.tree; whole = answers_all (g.V.Voucher.records c.args.voucher.now) (g.V.Voucher.ordered c.args.voucher.now) (g.V.Voucher.unbroken c.walk.voucher) })) (when_false c.pop.result (c.walk.progress.pending ≡ c.pop.new.into ∷ c.pop.new.self) (c.walk.progress.pending ≡ []) c.walk-test.false c.pop.ensures.popped) (c.walk.invariant.told dirs told honest) in
     all.opened w
 
 pub returns-clause-exact : goal.returns-clause-exact
 returns-clause-exact g c = λ dirs told honest w half.
-    let all = split_end dirs (plan_of c.args.rules.now).pruned (plan_of c.args.rules.now).root c.walk.progress.pending (Stands (plan_of c.args.rules.now) c.args.now (record { taken = g.D.Sink.taken c.args.sink.now; echoed = g.P.Sink.taken c.args.echo.now; stats = g.T.Tree.stats c.args.tree.now + (if g.T.Tree.priced c.args.tree.now c.args.rules.now.root then 1 else 0); openings = g.T.Tree.openings c.args.tree.now; records = g.V.Voucher.records c.args.voucher.now; priced = g.T.Tree.priced c.args.tree.now; names = c.args.limits.now.names }) (record { standing = standing (g.D.Sink.taken c.walk.sink) (g.P.Sink.taken c.walk.echo) c.walk.progress; stats = g.T.Tree.stats c.walk.tree; openings = g.T.Tree.openings c.walk.tree; whole = g.V.Voucher.whole c.walk.voucher })) (when_false c.pop.result (c.walk.progress.pending ≡ c.pop.new.into ∷ c.pop.new.self) (c.walk.progress.pending ≡ []) c.walk-test.false c.pop.ensures.popped) (c.walk.invariant.told dirs told honest) in
+    let all = split_end dirs (plan_of c.args.rules.now).pruned (plan_of c.args.rules.now).root c.walk.progress.pending (Stands (plan_of c.args.rules.now) c.args.now (record { taken = g.D.Sink.taken c.args.sink.now; echoed = g.P.Sink.taken c.args.echo.now; stats = g.T.Tree.stats c.args.tree.now + (if g.T.Tree.priced c.args.tree.now c.args.rules.now.root then 1 else 0); openings = g.T.Tree.openings c.args.tree.now; records = known (g.V.Voucher.records c.args.voucher.now); priced = g.T.Tree.priced c.args.tree.now; names = c.args.limits.now.names }) (record { standing = standing (g.D.Sink.taken c.walk.sink) (g.P.Sink.taken c.walk.echo) c.walk.progress; stats = g.T.Tree.stats c.walk.tree; openings = g.T.Tree.openings c.walk.tree; whole = answers_all (g.V.Voucher.records c.args.voucher.now) (g.V.Voucher.ordered c.args.voucher.now) (g.V.Voucher.unbroken c.walk.voucher) })) (when_false c.pop.result (c.walk.progress.pending ≡ c.pop.new.into ∷ c.pop.new.self) (c.walk.progress.pending ≡ []) c.walk-test.false c.pop.ensures.popped) (c.walk.invariant.told dirs told honest) in
     all.exact w half
 
 pub returns-clause-lacking : goal.returns-clause-lacking
@@ -192,7 +186,7 @@ returns-in_err-step-clause-opened g c = λ dirs told honest.
     let pend : c.walk.progress.pending ≡ c.pop.new.into ∷ c.pop.new.self = when_true c.pop.result (c.walk.progress.pending ≡ c.pop.new.into ∷ c.pop.new.self) (c.walk.progress.pending ≡ []) c.walk-test.true c.pop.ensures.popped in
     let told2 = g.met.T.Tree.keeps_dirs _ _ c.walk.invariant.kept ∙ told in
     let s = c.walk.invariant.told dirs told honest in
-    let room = tried_room dirs (plan_of c.args.rules.now).pruned (plan_of c.args.rules.now).root c.pop.new.into c.pop.new.self c.walk.progress.pending (Stands (plan_of c.args.rules.now) c.args.now (record { taken = g.D.Sink.taken c.args.sink.now; echoed = g.P.Sink.taken c.args.echo.now; stats = g.T.Tree.stats c.args.tree.now + (if g.T.Tree.priced c.args.tree.now c.args.rules.now.root then 1 else 0); openings = g.T.Tree.openings c.args.tree.now; records = g.V.Voucher.records c.args.voucher.now; priced = g.T.Tree.priced c.args.tree.now; names = c.args.limits.now.names }) (record { standing = standing (g.D.Sink.taken c.walk.sink) (g.P.Sink.taken c.walk.echo) c.walk.progress; stats = g.T.Tree.stats c.walk.tree; openings = g.T.Tree.openings c.walk.tree; whole = g.V.Voucher.whole c.walk.voucher })) fits pend s in
+    let room = tried_room dirs (plan_of c.args.rules.now).pruned (plan_of c.args.rules.now).root c.pop.new.into c.pop.new.self c.walk.progress.pending (Stands (plan_of c.args.rules.now) c.args.now (record { taken = g.D.Sink.taken c.args.sink.now; echoed = g.P.Sink.taken c.args.echo.now; stats = g.T.Tree.stats c.args.tree.now + (if g.T.Tree.priced c.args.tree.now c.args.rules.now.root then 1 else 0); openings = g.T.Tree.openings c.args.tree.now; records = known (g.V.Voucher.records c.args.voucher.now); priced = g.T.Tree.priced c.args.tree.now; names = c.args.limits.now.names }) (record { standing = standing (g.D.Sink.taken c.walk.sink) (g.P.Sink.taken c.walk.echo) c.walk.progress; stats = g.T.Tree.stats c.walk.tree; openings = g.T.Tree.openings c.walk.tree; whole = answers_all (g.V.Voucher.records c.args.voucher.now) (g.V.Voucher.ordered c.args.voucher.now) (g.V.Voucher.unbroken c.walk.voucher) })) fits pend s in
     omega (arith, room, s.written.tried, c.walk.invariant.openings, c.in_err-step.ensures.openings, c.in_err-step.ensures.seen dirs told2)
 
 pub returns-in_err-step-clause-unvouched : goal.returns-in_err-step-clause-unvouched
@@ -201,10 +195,10 @@ returns-in_err-step-clause-unvouched g c = λ dirs told honest w.
     let pend : c.walk.progress.pending ≡ c.pop.new.into ∷ c.pop.new.self = when_true c.pop.result (c.walk.progress.pending ≡ c.pop.new.into ∷ c.pop.new.self) (c.walk.progress.pending ≡ []) c.walk-test.true c.pop.ensures.popped in
     let told2 = g.met.T.Tree.keeps_dirs _ _ c.walk.invariant.kept ∙ told in
     let s = c.walk.invariant.told dirs told honest in
-    let keeps = subst (Keeps (g.V.Voucher.records c.args.voucher.now) (g.V.Voucher.records c.walk.voucher) (g.V.Voucher.whole c.walk.voucher)) pend c.walk.invariant.keeps in
-    let room = unvouched_room dirs (plan_of c.args.rules.now) c.pop.new.into c.pop.new.self c.walk.progress.pending (g.V.Voucher.records c.args.voucher.now) (Stands (plan_of c.args.rules.now) c.args.now (record { taken = g.D.Sink.taken c.args.sink.now; echoed = g.P.Sink.taken c.args.echo.now; stats = g.T.Tree.stats c.args.tree.now + (if g.T.Tree.priced c.args.tree.now c.args.rules.now.root then 1 else 0); openings = g.T.Tree.openings c.args.tree.now; records = g.V.Voucher.records c.args.voucher.now; priced = g.T.Tree.priced c.args.tree.now; names = c.args.limits.now.names }) (record { standing = standing (g.D.Sink.taken c.walk.sink) (g.P.Sink.taken c.walk.echo) c.walk.progress; stats = g.T.Tree.stats c.walk.tree; openings = g.T.Tree.openings c.walk.tree; whole = g.V.Voucher.whole c.walk.voucher })) fits pend s in
-    let same = opens_same dirs (plan_of c.args.rules.now) c.pop.new.into c.pop.new.self (g.V.Voucher.records c.walk.voucher) (g.V.Voucher.records c.args.voucher.now) (g.V.Voucher.whole c.walk.voucher) c.walk.invariant.fewer (c.in_err-step.ensures.leaves.mark w) keeps in
-    omega (arith, room, same, s.written.opened (c.in_err-step.ensures.leaves.mark w), c.in_err-step.ensures.opened dirs told2 w)
+    let keeps = subst (Keeps (known (g.V.Voucher.records c.args.voucher.now)) (known (g.V.Voucher.records c.walk.voucher)) (answers_all (g.V.Voucher.records c.args.voucher.now) (g.V.Voucher.ordered c.args.voucher.now) (g.V.Voucher.unbroken c.walk.voucher))) pend c.walk.invariant.keeps in
+    let room = unvouched_room dirs (plan_of c.args.rules.now) c.pop.new.into c.pop.new.self c.walk.progress.pending (known (g.V.Voucher.records c.args.voucher.now)) (Stands (plan_of c.args.rules.now) c.args.now (record { taken = g.D.Sink.taken c.args.sink.now; echoed = g.P.Sink.taken c.args.echo.now; stats = g.T.Tree.stats c.args.tree.now + (if g.T.Tree.priced c.args.tree.now c.args.rules.now.root then 1 else 0); openings = g.T.Tree.openings c.args.tree.now; records = known (g.V.Voucher.records c.args.voucher.now); priced = g.T.Tree.priced c.args.tree.now; names = c.args.limits.now.names }) (record { standing = standing (g.D.Sink.taken c.walk.sink) (g.P.Sink.taken c.walk.echo) c.walk.progress; stats = g.T.Tree.stats c.walk.tree; openings = g.T.Tree.openings c.walk.tree; whole = answers_all (g.V.Voucher.records c.args.voucher.now) (g.V.Voucher.ordered c.args.voucher.now) (g.V.Voucher.unbroken c.walk.voucher) })) fits pend s in
+    let same = opens_same dirs (plan_of c.args.rules.now) c.pop.new.into c.pop.new.self (known (g.V.Voucher.records c.walk.voucher)) (known (g.V.Voucher.records c.args.voucher.now)) (answers_all (g.V.Voucher.records c.args.voucher.now) (g.V.Voucher.ordered c.args.voucher.now) (g.V.Voucher.unbroken c.walk.voucher)) (fewer_known (g.V.Voucher.records c.args.voucher.now) (g.V.Voucher.records c.walk.voucher) (honest_known _ dirs (plan_of c.args.rules.now) honest) c.walk.invariant.fewer) (mark_before (g.V.Voucher.records c.args.voucher.now) (g.V.Voucher.ordered c.args.voucher.now) _ _ c.in_err-step.ensures.unbroken w) keeps in
+    omega (arith, room, same, s.written.opened (mark_before (g.V.Voucher.records c.args.voucher.now) (g.V.Voucher.ordered c.args.voucher.now) _ _ c.in_err-step.ensures.unbroken w), c.in_err-step.ensures.opened dirs told2 (mark_now (g.V.Voucher.records c.args.voucher.now) (g.V.Voucher.records c.walk.voucher) (g.V.Voucher.ordered c.args.voucher.now) _ _ c.walk.invariant.fewer c.walk.invariant.ordered w))
 
 pub returns-in_err-step-clause-stats : goal.returns-in_err-step-clause-stats
 returns-in_err-step-clause-stats g c = λ dirs told honest.
@@ -213,7 +207,7 @@ returns-in_err-step-clause-stats g c = λ dirs told honest.
     let s = c.walk.invariant.told dirs told honest in
     let priced : weight (plan_of c.args.rules.now).pruned (g.T.Tree.priced c.walk.tree) (c.pop.new.into ∷ []) ≡ weight (plan_of c.args.rules.now).pruned (g.T.Tree.priced c.args.tree.now) (c.pop.new.into ∷ []) = λ i. weight (plan_of c.args.rules.now).pruned (λ p. g.met.T.Tree.keeps_priced _ _ p c.walk.invariant.kept i) (c.pop.new.into ∷ []) in
     let looks : g.T.Tree.stats c.step.new.tree ≤ g.T.Tree.stats c.walk.tree + weight (plan_of c.args.rules.now).pruned (g.T.Tree.priced c.args.tree.now) (c.pop.new.into ∷ []) = omega (arith, priced, c.in_err-step.ensures.stats) in
-    let room = asked_room dirs (plan_of c.args.rules.now) c.args.now (record { taken = g.D.Sink.taken c.args.sink.now; echoed = g.P.Sink.taken c.args.echo.now; stats = g.T.Tree.stats c.args.tree.now + (if g.T.Tree.priced c.args.tree.now c.args.rules.now.root then 1 else 0); openings = g.T.Tree.openings c.args.tree.now; records = g.V.Voucher.records c.args.voucher.now; priced = g.T.Tree.priced c.args.tree.now; names = c.args.limits.now.names }) (record { standing = standing (g.D.Sink.taken c.walk.sink) (g.P.Sink.taken c.walk.echo) c.walk.progress; stats = g.T.Tree.stats c.walk.tree; openings = g.T.Tree.openings c.walk.tree; whole = g.V.Voucher.whole c.walk.voucher }) c.pop.new.into c.pop.new.self c.walk.progress.pending (g.T.Tree.stats c.step.new.tree) pend looks s in
+    let room = asked_room dirs (plan_of c.args.rules.now) c.args.now (record { taken = g.D.Sink.taken c.args.sink.now; echoed = g.P.Sink.taken c.args.echo.now; stats = g.T.Tree.stats c.args.tree.now + (if g.T.Tree.priced c.args.tree.now c.args.rules.now.root then 1 else 0); openings = g.T.Tree.openings c.args.tree.now; records = known (g.V.Voucher.records c.args.voucher.now); priced = g.T.Tree.priced c.args.tree.now; names = c.args.limits.now.names }) (record { standing = standing (g.D.Sink.taken c.walk.sink) (g.P.Sink.taken c.walk.echo) c.walk.progress; stats = g.T.Tree.stats c.walk.tree; openings = g.T.Tree.openings c.walk.tree; whole = answers_all (g.V.Voucher.records c.args.voucher.now) (g.V.Voucher.ordered c.args.voucher.now) (g.V.Voucher.unbroken c.walk.voucher) }) c.pop.new.into c.pop.new.self c.walk.progress.pending (g.T.Tree.stats c.step.new.tree) pend looks s in
     omega (arith, room)
 
 pub returns-in_err-step-clause-many : goal.returns-in_err-step-clause-many
@@ -222,7 +216,7 @@ returns-in_err-step-clause-many g c = λ e dirs told honest.
     let pend : c.walk.progress.pending ≡ c.pop.new.into ∷ c.pop.new.self = when_true c.pop.result (c.walk.progress.pending ≡ c.pop.new.into ∷ c.pop.new.self) (c.walk.progress.pending ≡ []) c.walk-test.true c.pop.ensures.popped in
     let told2 = g.met.T.Tree.keeps_dirs _ _ c.walk.invariant.kept ∙ told in
     let s = c.walk.invariant.told dirs told honest in
-    let room = tried_room dirs (plan_of c.args.rules.now).pruned (plan_of c.args.rules.now).root c.pop.new.into c.pop.new.self c.walk.progress.pending (Stands (plan_of c.args.rules.now) c.args.now (record { taken = g.D.Sink.taken c.args.sink.now; echoed = g.P.Sink.taken c.args.echo.now; stats = g.T.Tree.stats c.args.tree.now + (if g.T.Tree.priced c.args.tree.now c.args.rules.now.root then 1 else 0); openings = g.T.Tree.openings c.args.tree.now; records = g.V.Voucher.records c.args.voucher.now; priced = g.T.Tree.priced c.args.tree.now; names = c.args.limits.now.names }) (record { standing = standing (g.D.Sink.taken c.walk.sink) (g.P.Sink.taken c.walk.echo) c.walk.progress; stats = g.T.Tree.stats c.walk.tree; openings = g.T.Tree.openings c.walk.tree; whole = g.V.Voucher.whole c.walk.voucher })) fits pend s in
+    let room = tried_room dirs (plan_of c.args.rules.now).pruned (plan_of c.args.rules.now).root c.pop.new.into c.pop.new.self c.walk.progress.pending (Stands (plan_of c.args.rules.now) c.args.now (record { taken = g.D.Sink.taken c.args.sink.now; echoed = g.P.Sink.taken c.args.echo.now; stats = g.T.Tree.stats c.args.tree.now + (if g.T.Tree.priced c.args.tree.now c.args.rules.now.root then 1 else 0); openings = g.T.Tree.openings c.args.tree.now; records = known (g.V.Voucher.records c.args.voucher.now); priced = g.T.Tree.priced c.args.tree.now; names = c.args.limits.now.names }) (record { standing = standing (g.D.Sink.taken c.walk.sink) (g.P.Sink.taken c.walk.echo) c.walk.progress; stats = g.T.Tree.stats c.walk.tree; openings = g.T.Tree.openings c.walk.tree; whole = answers_all (g.V.Voucher.records c.args.voucher.now) (g.V.Voucher.ordered c.args.voucher.now) (g.V.Voucher.unbroken c.walk.voucher) })) fits pend s in
     omega (arith, room, s.written.tried, c.in_err-step.ensures.many (search rules) dirs told2)
 
 pub returns-in_err-step-clause-many_names : goal.returns-in_err-step-clause-many_names
@@ -237,13 +231,13 @@ returns-in_err-step-clause-whole_names g c = λ e dirs told honest.
     let pend : c.walk.progress.pending ≡ c.pop.new.into ∷ c.pop.new.self = when_true c.pop.result (c.walk.progress.pending ≡ c.pop.new.into ∷ c.pop.new.self) (c.walk.progress.pending ≡ []) c.walk-test.true c.pop.ensures.popped in
     let told2 = g.met.T.Tree.keeps_dirs _ _ c.walk.invariant.kept ∙ told in
     let s = c.walk.invariant.told dirs told honest in
-    stops_wide dirs (plan_of c.args.rules.now) c.args.now (record { taken = g.D.Sink.taken c.args.sink.now; echoed = g.P.Sink.taken c.args.echo.now; stats = g.T.Tree.stats c.args.tree.now + (if g.T.Tree.priced c.args.tree.now c.args.rules.now.root then 1 else 0); openings = g.T.Tree.openings c.args.tree.now; records = g.V.Voucher.records c.args.voucher.now; priced = g.T.Tree.priced c.args.tree.now; names = c.args.limits.now.names }) (record { standing = standing (g.D.Sink.taken c.walk.sink) (g.P.Sink.taken c.walk.echo) c.walk.progress; stats = g.T.Tree.stats c.walk.tree; openings = g.T.Tree.openings c.walk.tree; whole = g.V.Voucher.whole c.walk.voucher }) c.pop.new.into c.pop.new.self c.walk.progress.pending c.args.limits.now.names (g.D.Sink.taken c.step.new.sink) (g.P.Sink.taken c.step.new.echo) fits pend (c.in_err-step.ensures.many_names (search rules) dirs told2) (c.in_err-step.ensures.whole (whole_by c.in_err-step.field-0.0 TooManyNames (search rules) refl)) s
+    stops_wide dirs (plan_of c.args.rules.now) c.args.now (record { taken = g.D.Sink.taken c.args.sink.now; echoed = g.P.Sink.taken c.args.echo.now; stats = g.T.Tree.stats c.args.tree.now + (if g.T.Tree.priced c.args.tree.now c.args.rules.now.root then 1 else 0); openings = g.T.Tree.openings c.args.tree.now; records = known (g.V.Voucher.records c.args.voucher.now); priced = g.T.Tree.priced c.args.tree.now; names = c.args.limits.now.names }) (record { standing = standing (g.D.Sink.taken c.walk.sink) (g.P.Sink.taken c.walk.echo) c.walk.progress; stats = g.T.Tree.stats c.walk.tree; openings = g.T.Tree.openings c.walk.tree; whole = answers_all (g.V.Voucher.records c.args.voucher.now) (g.V.Voucher.ordered c.args.voucher.now) (g.V.Voucher.unbroken c.walk.voucher) }) c.pop.new.into c.pop.new.self c.walk.progress.pending c.args.limits.now.names (g.D.Sink.taken c.step.new.sink) (g.P.Sink.taken c.step.new.echo) fits pend (c.in_err-step.ensures.many_names (search rules) dirs told2) (c.in_err-step.ensures.whole (whole_by c.in_err-step.field-0.0 TooManyNames (search rules) refl)) s
 
 pub returns-in_err-step-clause-whole_directories : goal.returns-in_err-step-clause-whole_directories
 returns-in_err-step-clause-whole_directories g c = λ e dirs told honest.
     let told2 = g.met.T.Tree.keeps_dirs _ _ c.walk.invariant.kept ∙ told in
     let s = c.walk.invariant.told dirs told honest in
-    stops_full dirs (plan_of c.args.rules.now) c.args.now (record { taken = g.D.Sink.taken c.args.sink.now; echoed = g.P.Sink.taken c.args.echo.now; stats = g.T.Tree.stats c.args.tree.now + (if g.T.Tree.priced c.args.tree.now c.args.rules.now.root then 1 else 0); openings = g.T.Tree.openings c.args.tree.now; records = g.V.Voucher.records c.args.voucher.now; priced = g.T.Tree.priced c.args.tree.now; names = c.args.limits.now.names }) (record { standing = standing (g.D.Sink.taken c.walk.sink) (g.P.Sink.taken c.walk.echo) c.walk.progress; stats = g.T.Tree.stats c.walk.tree; openings = g.T.Tree.openings c.walk.tree; whole = g.V.Voucher.whole c.walk.voucher }) c.pop.new.into c.walk.progress.pending c.args.limits.now.directories (g.D.Sink.taken c.step.new.sink) (g.P.Sink.taken c.step.new.echo) c.walk.invariant.tried (c.in_err-step.ensures.many (search rules) dirs told2) (c.in_err-step.ensures.whole (whole_by c.in_err-step.field-0.0 TooManyDirectories (search rules) refl)) s
+    stops_full dirs (plan_of c.args.rules.now) c.args.now (record { taken = g.D.Sink.taken c.args.sink.now; echoed = g.P.Sink.taken c.args.echo.now; stats = g.T.Tree.stats c.args.tree.now + (if g.T.Tree.priced c.args.tree.now c.args.rules.now.root then 1 else 0); openings = g.T.Tree.openings c.args.tree.now; records = known (g.V.Voucher.records c.args.voucher.now); priced = g.T.Tree.priced c.args.tree.now; names = c.args.limits.now.names }) (record { standing = standing (g.D.Sink.taken c.walk.sink) (g.P.Sink.taken c.walk.echo) c.walk.progress; stats = g.T.Tree.stats c.walk.tree; openings = g.T.Tree.openings c.walk.tree; whole = answers_all (g.V.Voucher.records c.args.voucher.now) (g.V.Voucher.ordered c.args.voucher.now) (g.V.Voucher.unbroken c.walk.voucher) }) c.pop.new.into c.walk.progress.pending c.args.limits.now.directories (g.D.Sink.taken c.step.new.sink) (g.P.Sink.taken c.step.new.echo) c.walk.invariant.tried (c.in_err-step.ensures.many (search rules) dirs told2) (c.in_err-step.ensures.whole (whole_by c.in_err-step.field-0.0 TooManyDirectories (search rules) refl)) s
 
 pub returns-in_err-step-clause-part : goal.returns-in_err-step-clause-part
 returns-in_err-step-clause-part g c =
@@ -252,8 +246,8 @@ returns-in_err-step-clause-part g c =
     let pend : c.walk.progress.pending ≡ c.pop.new.into ∷ c.pop.new.self = when_true c.pop.result (c.walk.progress.pending ≡ c.pop.new.into ∷ c.pop.new.self) (c.walk.progress.pending ≡ []) c.walk-test.true c.pop.ensures.popped in
     let told2 = g.met.T.Tree.keeps_dirs _ _ c.walk.invariant.kept ∙ told in
     let s = c.walk.invariant.told dirs told honest in
-    let relied = step_relied dirs (plan_of c.args.rules.now) c.pop.new.into c.pop.new.self c.walk.progress.pending (g.V.Voucher.records c.walk.voucher) (g.V.Voucher.records c.args.voucher.now) (Stands (plan_of c.args.rules.now) c.args.now (record { taken = g.D.Sink.taken c.args.sink.now; echoed = g.P.Sink.taken c.args.echo.now; stats = g.T.Tree.stats c.args.tree.now + (if g.T.Tree.priced c.args.tree.now c.args.rules.now.root then 1 else 0); openings = g.T.Tree.openings c.args.tree.now; records = g.V.Voucher.records c.args.voucher.now; priced = g.T.Tree.priced c.args.tree.now; names = c.args.limits.now.names }) (record { standing = standing (g.D.Sink.taken c.walk.sink) (g.P.Sink.taken c.walk.echo) c.walk.progress; stats = g.T.Tree.stats c.walk.tree; openings = g.T.Tree.openings c.walk.tree; whole = g.V.Voucher.whole c.walk.voucher })) c.walk.invariant.fewer honest fits pend s in
-    let sw : Split dirs (plan_of c.args.rules.now).pruned (plan_of c.args.rules.now).root c.walk.progress.pending (λ done went. Wrote (plan_of c.args.rules.now) c.args.now (g.D.Sink.taken c.args.sink.now) (g.D.Sink.taken c.walk.sink) (g.P.Sink.taken c.args.echo.now) (g.P.Sink.taken c.walk.echo) done) = split_map dirs (plan_of c.args.rules.now).pruned (plan_of c.args.rules.now).root c.walk.progress.pending (Stands (plan_of c.args.rules.now) c.args.now (record { taken = g.D.Sink.taken c.args.sink.now; echoed = g.P.Sink.taken c.args.echo.now; stats = g.T.Tree.stats c.args.tree.now + (if g.T.Tree.priced c.args.tree.now c.args.rules.now.root then 1 else 0); openings = g.T.Tree.openings c.args.tree.now; records = g.V.Voucher.records c.args.voucher.now; priced = g.T.Tree.priced c.args.tree.now; names = c.args.limits.now.names }) (record { standing = standing (g.D.Sink.taken c.walk.sink) (g.P.Sink.taken c.walk.echo) c.walk.progress; stats = g.T.Tree.stats c.walk.tree; openings = g.T.Tree.openings c.walk.tree; whole = g.V.Voucher.whole c.walk.voucher })) (λ done went. Wrote (plan_of c.args.rules.now) c.args.now (g.D.Sink.taken c.args.sink.now) (g.D.Sink.taken c.walk.sink) (g.P.Sink.taken c.args.echo.now) (g.P.Sink.taken c.walk.echo) done) (λ done went st. wrote_of (plan_of c.args.rules.now) c.args.now (record { taken = g.D.Sink.taken c.args.sink.now; echoed = g.P.Sink.taken c.args.echo.now; stats = g.T.Tree.stats c.args.tree.now + (if g.T.Tree.priced c.args.tree.now c.args.rules.now.root then 1 else 0); openings = g.T.Tree.openings c.args.tree.now; records = g.V.Voucher.records c.args.voucher.now; priced = g.T.Tree.priced c.args.tree.now; names = c.args.limits.now.names }) (record { standing = standing (g.D.Sink.taken c.walk.sink) (g.P.Sink.taken c.walk.echo) c.walk.progress; stats = g.T.Tree.stats c.walk.tree; openings = g.T.Tree.openings c.walk.tree; whole = g.V.Voucher.whole c.walk.voucher }) done went st) s in
+    let relied = step_relied dirs (plan_of c.args.rules.now) c.pop.new.into c.pop.new.self c.walk.progress.pending (g.V.Voucher.records c.walk.voucher) (g.V.Voucher.records c.args.voucher.now) (Stands (plan_of c.args.rules.now) c.args.now (record { taken = g.D.Sink.taken c.args.sink.now; echoed = g.P.Sink.taken c.args.echo.now; stats = g.T.Tree.stats c.args.tree.now + (if g.T.Tree.priced c.args.tree.now c.args.rules.now.root then 1 else 0); openings = g.T.Tree.openings c.args.tree.now; records = known (g.V.Voucher.records c.args.voucher.now); priced = g.T.Tree.priced c.args.tree.now; names = c.args.limits.now.names }) (record { standing = standing (g.D.Sink.taken c.walk.sink) (g.P.Sink.taken c.walk.echo) c.walk.progress; stats = g.T.Tree.stats c.walk.tree; openings = g.T.Tree.openings c.walk.tree; whole = answers_all (g.V.Voucher.records c.args.voucher.now) (g.V.Voucher.ordered c.args.voucher.now) (g.V.Voucher.unbroken c.walk.voucher) })) c.walk.invariant.fewer honest fits pend s in
+    let sw : Split dirs (plan_of c.args.rules.now).pruned (plan_of c.args.rules.now).root c.walk.progress.pending (λ done went. Wrote (plan_of c.args.rules.now) c.args.now (g.D.Sink.taken c.args.sink.now) (g.D.Sink.taken c.walk.sink) (g.P.Sink.taken c.args.echo.now) (g.P.Sink.taken c.walk.echo) done) = split_map dirs (plan_of c.args.rules.now).pruned (plan_of c.args.rules.now).root c.walk.progress.pending (Stands (plan_of c.args.rules.now) c.args.now (record { taken = g.D.Sink.taken c.args.sink.now; echoed = g.P.Sink.taken c.args.echo.now; stats = g.T.Tree.stats c.args.tree.now + (if g.T.Tree.priced c.args.tree.now c.args.rules.now.root then 1 else 0); openings = g.T.Tree.openings c.args.tree.now; records = known (g.V.Voucher.records c.args.voucher.now); priced = g.T.Tree.priced c.args.tree.now; names = c.args.limits.now.names }) (record { standing = standing (g.D.Sink.taken c.walk.sink) (g.P.Sink.taken c.walk.echo) c.walk.progress; stats = g.T.Tree.stats c.walk.tree; openings = g.T.Tree.openings c.walk.tree; whole = answers_all (g.V.Voucher.records c.args.voucher.now) (g.V.Voucher.ordered c.args.voucher.now) (g.V.Voucher.unbroken c.walk.voucher) })) (λ done went. Wrote (plan_of c.args.rules.now) c.args.now (g.D.Sink.taken c.args.sink.now) (g.D.Sink.taken c.walk.sink) (g.P.Sink.taken c.args.echo.now) (g.P.Sink.taken c.walk.echo) done) (λ done went st. wrote_of (plan_of c.args.rules.now) c.args.now (record { taken = g.D.Sink.taken c.args.sink.now; echoed = g.P.Sink.taken c.args.echo.now; stats = g.T.Tree.stats c.args.tree.now + (if g.T.Tree.priced c.args.tree.now c.args.rules.now.root then 1 else 0); openings = g.T.Tree.openings c.args.tree.now; records = known (g.V.Voucher.records c.args.voucher.now); priced = g.T.Tree.priced c.args.tree.now; names = c.args.limits.now.names }) (record { standing = standing (g.D.Sink.taken c.walk.sink) (g.P.Sink.taken c.walk.echo) c.walk.progress; stats = g.T.Tree.stats c.walk.tree; openings = g.T.Tree.openings c.walk.tree; whole = answers_all (g.V.Voucher.records c.args.voucher.now) (g.V.Voucher.ordered c.args.voucher.now) (g.V.Voucher.unbroken c.walk.voucher) }) done went st) s in
     (breaks_off dirs (plan_of c.args.rules.now) c.args.now _ _ (g.D.Sink.taken c.step.new.sink) _ _ (g.P.Sink.taken c.step.new.echo) c.pop.new.into c.pop.new.self c.walk.progress.pending fits pend sw (c.in_err-step.ensures.breaks dirs told2 relied)).written in
     when_err _ _ p
 
@@ -267,7 +261,7 @@ returns-in_err-come-clause-part g c =
     let told2 = g.met.T.Tree.keeps_dirs _ _ c.in-Ok.ensures.kept ∙ told in
     let time = c.later-time.ensures ∙ ap time_of f.times_are in
     let s0 : Split dirs (plan_of c.args.rules.now).pruned (plan_of c.args.rules.now).root (c.root_of-path.result ∷ []) (λ done went. Wrote (plan_of c.args.rules.now) c.args.now (g.D.Sink.taken c.args.sink.now) (g.D.Sink.taken c.put_front.new.sink) (g.P.Sink.taken c.args.echo.now) (g.P.Sink.taken c.args.echo.now) done) = root_split dirs (plan_of c.args.rules.now) c.root_of-path.result (λ done went. Wrote (plan_of c.args.rules.now) c.args.now (g.D.Sink.taken c.args.sink.now) (g.D.Sink.taken c.put_front.new.sink) (g.P.Sink.taken c.args.echo.now) (g.P.Sink.taken c.args.echo.now) done) root_is fits (wrote_header (plan_of c.args.rules.now) c.args.now _ _ _ c.in-Ok-put_front.ensures.ok) in
-    let relied = step_relied dirs (plan_of c.args.rules.now) c.root_of-path.result [] (c.root_of-path.result ∷ []) (g.V.Voucher.records c.args.voucher.now) (g.V.Voucher.records c.args.voucher.now) (λ done went. Wrote (plan_of c.args.rules.now) c.args.now (g.D.Sink.taken c.args.sink.now) (g.D.Sink.taken c.put_front.new.sink) (g.P.Sink.taken c.args.echo.now) (g.P.Sink.taken c.args.echo.now) done) (λ r h. h) honest path_fits refl s0 in
+    let relied = step_relied dirs (plan_of c.args.rules.now) c.root_of-path.result [] (c.root_of-path.result ∷ []) (g.V.Voucher.records c.args.voucher.now) (g.V.Voucher.records c.args.voucher.now) (λ done went. Wrote (plan_of c.args.rules.now) c.args.now (g.D.Sink.taken c.args.sink.now) (g.D.Sink.taken c.put_front.new.sink) (g.P.Sink.taken c.args.echo.now) (g.P.Sink.taken c.args.echo.now) done) (fewer_same (g.V.Voucher.records c.args.voucher.now)) honest path_fits refl s0 in
     (breaks_off dirs (plan_of c.args.rules.now) c.args.now _ _ (g.D.Sink.taken c.come.new.sink) _ _ (g.P.Sink.taken c.come.new.echo) c.root_of-path.result [] (c.root_of-path.result ∷ []) path_fits refl s0 (c.in_err-come.ensures.breaks dirs told2 f.dir f.is time relied)).written in
     when_err _ _ p
 
@@ -281,8 +275,8 @@ returns-in_err-step-clause-echo_part g c =
     let pend : c.walk.progress.pending ≡ c.pop.new.into ∷ c.pop.new.self = when_true c.pop.result (c.walk.progress.pending ≡ c.pop.new.into ∷ c.pop.new.self) (c.walk.progress.pending ≡ []) c.walk-test.true c.pop.ensures.popped in
     let told2 = g.met.T.Tree.keeps_dirs _ _ c.walk.invariant.kept ∙ told in
     let s = c.walk.invariant.told dirs told honest in
-    let relied = step_relied dirs (plan_of c.args.rules.now) c.pop.new.into c.pop.new.self c.walk.progress.pending (g.V.Voucher.records c.walk.voucher) (g.V.Voucher.records c.args.voucher.now) (Stands (plan_of c.args.rules.now) c.args.now (record { taken = g.D.Sink.taken c.args.sink.now; echoed = g.P.Sink.taken c.args.echo.now; stats = g.T.Tree.stats c.args.tree.now + (if g.T.Tree.priced c.args.tree.now c.args.rules.now.root then 1 else 0); openings = g.T.Tree.openings c.args.tree.now; records = g.V.Voucher.records c.args.voucher.now; priced = g.T.Tree.priced c.args.tree.now; names = c.args.limits.now.names }) (record { standing = standing (g.D.Sink.taken c.walk.sink) (g.P.Sink.taken c.walk.echo) c.walk.progress; stats = g.T.Tree.stats c.walk.tree; openings = g.T.Tree.openings c.walk.tree; whole = g.V.Voucher.whole c.walk.voucher })) c.walk.invariant.fewer honest fits pend s in
-    let sw : Split dirs (plan_of c.args.rules.now).pruned (plan_of c.args.rules.now).root c.walk.progress.pending (λ done went. Wrote (plan_of c.args.rules.now) c.args.now (g.D.Sink.taken c.args.sink.now) (g.D.Sink.taken c.walk.sink) (g.P.Sink.taken c.args.echo.now) (g.P.Sink.taken c.walk.echo) done) = split_map dirs (plan_of c.args.rules.now).pruned (plan_of c.args.rules.now).root c.walk.progress.pending (Stands (plan_of c.args.rules.now) c.args.now (record { taken = g.D.Sink.taken c.args.sink.now; echoed = g.P.Sink.taken c.args.echo.now; stats = g.T.Tree.stats c.args.tree.now + (if g.T.Tree.priced c.args.tree.now c.args.rules.now.root then 1 else 0); openings = g.T.Tree.openings c.args.tree.now; records = g.V.Voucher.records c.args.voucher.now; priced = g.T.Tree.priced c.args.tree.now; names = c.args.limits.now.names }) (record { standing = standing (g.D.Sink.taken c.walk.sink) (g.P.Sink.taken c.walk.echo) c.walk.progress; stats = g.T.Tree.stats c.walk.tree; openings = g.T.Tree.openings c.walk.tree; whole = g.V.Voucher.whole c.walk.voucher })) (λ done went. Wrote (plan_of c.args.rules.now) c.args.now (g.D.Sink.taken c.args.sink.now) (g.D.Sink.taken c.walk.sink) (g.P.Sink.taken c.args.echo.now) (g.P.Sink.taken c.walk.echo) done) (λ done went st. wrote_of (plan_of c.args.rules.now) c.args.now (record { taken = g.D.Sink.taken c.args.sink.now; echoed = g.P.Sink.taken c.args.echo.now; stats = g.T.Tree.stats c.args.tree.now + (if g.T.Tree.priced c.args.tree.now c.args.rules.now.root then 1 else 0); openings = g.T.Tree.openings c.args.tree.now; records = g.V.Voucher.records c.args.voucher.now; priced = g.T.Tree.priced c.args.tree.now; names = c.args.limits.now.names }) (record { standing = standing (g.D.Sink.taken c.walk.sink) (g.P.Sink.taken c.walk.echo) c.walk.progress; stats = g.T.Tree.stats c.walk.tree; openings = g.T.Tree.openings c.walk.tree; whole = g.V.Voucher.whole c.walk.voucher }) done went st) s in
+    let relied = step_relied dirs (plan_of c.args.rules.now) c.pop.new.into c.pop.new.self c.walk.progress.pending (g.V.Voucher.records c.walk.voucher) (g.V.Voucher.records c.args.voucher.now) (Stands (plan_of c.args.rules.now) c.args.now (record { taken = g.D.Sink.taken c.args.sink.now; echoed = g.P.Sink.taken c.args.echo.now; stats = g.T.Tree.stats c.args.tree.now + (if g.T.Tree.priced c.args.tree.now c.args.rules.now.root then 1 else 0); openings = g.T.Tree.openings c.args.tree.now; records = known (g.V.Voucher.records c.args.voucher.now); priced = g.T.Tree.priced c.args.tree.now; names = c.args.limits.now.names }) (record { standing = standing (g.D.Sink.taken c.walk.sink) (g.P.Sink.taken c.walk.echo) c.walk.progress; stats = g.T.Tree.stats c.walk.tree; openings = g.T.Tree.openings c.walk.tree; whole = answers_all (g.V.Voucher.records c.args.voucher.now) (g.V.Voucher.ordered c.args.voucher.now) (g.V.Voucher.unbroken c.walk.voucher) })) c.walk.invariant.fewer honest fits pend s in
+    let sw : Split dirs (plan_of c.args.rules.now).pruned (plan_of c.args.rules.now).root c.walk.progress.pending (λ done went. Wrote (plan_of c.args.rules.now) c.args.now (g.D.Sink.taken c.args.sink.now) (g.D.Sink.taken c.walk.sink) (g.P.Sink.taken c.args.echo.now) (g.P.Sink.taken c.walk.echo) done) = split_map dirs (plan_of c.args.rules.now).pruned (plan_of c.args.rules.now).root c.walk.progress.pending (Stands (plan_of c.args.rules.now) c.args.now (record { taken = g.D.Sink.taken c.args.sink.now; echoed = g.P.Sink.taken c.args.echo.now; stats = g.T.Tree.stats c.args.tree.now + (if g.T.Tree.priced c.args.tree.now c.args.rules.now.root then 1 else 0); openings = g.T.Tree.openings c.args.tree.now; records = known (g.V.Voucher.records c.args.voucher.now); priced = g.T.Tree.priced c.args.tree.now; names = c.args.limits.now.names }) (record { standing = standing (g.D.Sink.taken c.walk.sink) (g.P.Sink.taken c.walk.echo) c.walk.progress; stats = g.T.Tree.stats c.walk.tree; openings = g.T.Tree.openings c.walk.tree; whole = answers_all (g.V.Voucher.records c.args.voucher.now) (g.V.Voucher.ordered c.args.voucher.now) (g.V.Voucher.unbroken c.walk.voucher) })) (λ done went. Wrote (plan_of c.args.rules.now) c.args.now (g.D.Sink.taken c.args.sink.now) (g.D.Sink.taken c.walk.sink) (g.P.Sink.taken c.args.echo.now) (g.P.Sink.taken c.walk.echo) done) (λ done went st. wrote_of (plan_of c.args.rules.now) c.args.now (record { taken = g.D.Sink.taken c.args.sink.now; echoed = g.P.Sink.taken c.args.echo.now; stats = g.T.Tree.stats c.args.tree.now + (if g.T.Tree.priced c.args.tree.now c.args.rules.now.root then 1 else 0); openings = g.T.Tree.openings c.args.tree.now; records = known (g.V.Voucher.records c.args.voucher.now); priced = g.T.Tree.priced c.args.tree.now; names = c.args.limits.now.names }) (record { standing = standing (g.D.Sink.taken c.walk.sink) (g.P.Sink.taken c.walk.echo) c.walk.progress; stats = g.T.Tree.stats c.walk.tree; openings = g.T.Tree.openings c.walk.tree; whole = answers_all (g.V.Voucher.records c.args.voucher.now) (g.V.Voucher.ordered c.args.voucher.now) (g.V.Voucher.unbroken c.walk.voucher) }) done went st) s in
     (breaks_off dirs (plan_of c.args.rules.now) c.args.now _ _ (g.D.Sink.taken c.step.new.sink) _ _ (g.P.Sink.taken c.step.new.echo) c.pop.new.into c.pop.new.self c.walk.progress.pending fits pend sw (c.in_err-step.ensures.breaks dirs told2 relied)).lined in
     when_err _ _ p
 
@@ -296,7 +290,7 @@ returns-in_err-come-clause-echo_part g c =
     let told2 = g.met.T.Tree.keeps_dirs _ _ c.in-Ok.ensures.kept ∙ told in
     let time = c.later-time.ensures ∙ ap time_of f.times_are in
     let s0 : Split dirs (plan_of c.args.rules.now).pruned (plan_of c.args.rules.now).root (c.root_of-path.result ∷ []) (λ done went. Wrote (plan_of c.args.rules.now) c.args.now (g.D.Sink.taken c.args.sink.now) (g.D.Sink.taken c.put_front.new.sink) (g.P.Sink.taken c.args.echo.now) (g.P.Sink.taken c.args.echo.now) done) = root_split dirs (plan_of c.args.rules.now) c.root_of-path.result (λ done went. Wrote (plan_of c.args.rules.now) c.args.now (g.D.Sink.taken c.args.sink.now) (g.D.Sink.taken c.put_front.new.sink) (g.P.Sink.taken c.args.echo.now) (g.P.Sink.taken c.args.echo.now) done) root_is fits (wrote_header (plan_of c.args.rules.now) c.args.now _ _ _ c.in-Ok-put_front.ensures.ok) in
-    let relied = step_relied dirs (plan_of c.args.rules.now) c.root_of-path.result [] (c.root_of-path.result ∷ []) (g.V.Voucher.records c.args.voucher.now) (g.V.Voucher.records c.args.voucher.now) (λ done went. Wrote (plan_of c.args.rules.now) c.args.now (g.D.Sink.taken c.args.sink.now) (g.D.Sink.taken c.put_front.new.sink) (g.P.Sink.taken c.args.echo.now) (g.P.Sink.taken c.args.echo.now) done) (λ r h. h) honest path_fits refl s0 in
+    let relied = step_relied dirs (plan_of c.args.rules.now) c.root_of-path.result [] (c.root_of-path.result ∷ []) (g.V.Voucher.records c.args.voucher.now) (g.V.Voucher.records c.args.voucher.now) (λ done went. Wrote (plan_of c.args.rules.now) c.args.now (g.D.Sink.taken c.args.sink.now) (g.D.Sink.taken c.put_front.new.sink) (g.P.Sink.taken c.args.echo.now) (g.P.Sink.taken c.args.echo.now) done) (fewer_same (g.V.Voucher.records c.args.voucher.now)) honest path_fits refl s0 in
     (breaks_off dirs (plan_of c.args.rules.now) c.args.now _ _ (g.D.Sink.taken c.come.new.sink) _ _ (g.P.Sink.taken c.come.new.echo) c.root_of-path.result [] (c.root_of-path.result ∷ []) path_fits refl s0 (c.in_err-come.ensures.breaks dirs told2 f.dir f.is time relied)).lined in
     when_err _ _ p
 
@@ -306,7 +300,7 @@ returns-in_default-put_front-clause-echo_part g c = λ dirs told honest. (parts_
 pub returns-in_err-step-clause-whole_tree : goal.returns-in_err-step-clause-whole_tree
 returns-in_err-step-clause-whole_tree g c = λ e dirs told honest.
     let s = c.walk.invariant.told dirs told honest in
-    let sw : Split dirs (plan_of c.args.rules.now).pruned (plan_of c.args.rules.now).root c.walk.progress.pending (λ done went. Wrote (plan_of c.args.rules.now) c.args.now (g.D.Sink.taken c.args.sink.now) (g.D.Sink.taken c.walk.sink) (g.P.Sink.taken c.args.echo.now) (g.P.Sink.taken c.walk.echo) done) = split_map dirs (plan_of c.args.rules.now).pruned (plan_of c.args.rules.now).root c.walk.progress.pending (Stands (plan_of c.args.rules.now) c.args.now (record { taken = g.D.Sink.taken c.args.sink.now; echoed = g.P.Sink.taken c.args.echo.now; stats = g.T.Tree.stats c.args.tree.now + (if g.T.Tree.priced c.args.tree.now c.args.rules.now.root then 1 else 0); openings = g.T.Tree.openings c.args.tree.now; records = g.V.Voucher.records c.args.voucher.now; priced = g.T.Tree.priced c.args.tree.now; names = c.args.limits.now.names }) (record { standing = standing (g.D.Sink.taken c.walk.sink) (g.P.Sink.taken c.walk.echo) c.walk.progress; stats = g.T.Tree.stats c.walk.tree; openings = g.T.Tree.openings c.walk.tree; whole = g.V.Voucher.whole c.walk.voucher })) (λ done went. Wrote (plan_of c.args.rules.now) c.args.now (g.D.Sink.taken c.args.sink.now) (g.D.Sink.taken c.walk.sink) (g.P.Sink.taken c.args.echo.now) (g.P.Sink.taken c.walk.echo) done) (λ done went st. wrote_of (plan_of c.args.rules.now) c.args.now (record { taken = g.D.Sink.taken c.args.sink.now; echoed = g.P.Sink.taken c.args.echo.now; stats = g.T.Tree.stats c.args.tree.now + (if g.T.Tree.priced c.args.tree.now c.args.rules.now.root then 1 else 0); openings = g.T.Tree.openings c.args.tree.now; records = g.V.Voucher.records c.args.voucher.now; priced = g.T.Tree.priced c.args.tree.now; names = c.args.limits.now.names }) (record { standing = standing (g.D.Sink.taken c.walk.sink) (g.P.Sink.taken c.walk.echo) c.walk.progress; stats = g.T.Tree.stats c.walk.tree; openings = g.T.Tree.openings c.walk.tree; whole = g.V.Voucher.whole c.walk.voucher }) done went st) s in
+    let sw : Split dirs (plan_of c.args.rules.now).pruned (plan_of c.args.rules.now).root c.walk.progress.pending (λ done went. Wrote (plan_of c.args.rules.now) c.args.now (g.D.Sink.taken c.args.sink.now) (g.D.Sink.taken c.walk.sink) (g.P.Sink.taken c.args.echo.now) (g.P.Sink.taken c.walk.echo) done) = split_map dirs (plan_of c.args.rules.now).pruned (plan_of c.args.rules.now).root c.walk.progress.pending (Stands (plan_of c.args.rules.now) c.args.now (record { taken = g.D.Sink.taken c.args.sink.now; echoed = g.P.Sink.taken c.args.echo.now; stats = g.T.Tree.stats c.args.tree.now + (if g.T.Tree.priced c.args.tree.now c.args.rules.now.root then 1 else 0); openings = g.T.Tree.openings c.args.tree.now; records = known (g.V.Voucher.records c.args.voucher.now); priced = g.T.Tree.priced c.args.tree.now; names = c.args.limits.now.names }) (record { standing = standing (g.D.Sink.taken c.walk.sink) (g.P.Sink.taken c.walk.echo) c.walk.progress; stats = g.T.Tree.stats c.walk.tree; openings = g.T.Tree.openings c.walk.tree; whole = answers_all (g.V.Voucher.records c.args.voucher.now) (g.V.Voucher.ordered c.args.voucher.now) (g.V.Voucher.unbroken c.walk.voucher) })) (λ done went. Wrote (plan_of c.args.rules.now) c.args.now (g.D.Sink.taken c.args.sink.now) (g.D.Sink.taken c.walk.sink) (g.P.Sink.taken c.args.echo.now) (g.P.Sink.taken c.walk.echo) done) (λ done went st. wrote_of (plan_of c.args.rules.now) c.args.now (record { taken = g.D.Sink.taken c.args.sink.now; echoed = g.P.Sink.taken c.args.echo.now; stats = g.T.Tree.stats c.args.tree.now + (if g.T.Tree.priced c.args.tree.now c.args.rules.now.root then 1 else 0); openings = g.T.Tree.openings c.args.tree.now; records = known (g.V.Voucher.records c.args.voucher.now); priced = g.T.Tree.priced c.args.tree.now; names = c.args.limits.now.names }) (record { standing = standing (g.D.Sink.taken c.walk.sink) (g.P.Sink.taken c.walk.echo) c.walk.progress; stats = g.T.Tree.stats c.walk.tree; openings = g.T.Tree.openings c.walk.tree; whole = answers_all (g.V.Voucher.records c.args.voucher.now) (g.V.Voucher.ordered c.args.voucher.now) (g.V.Voucher.unbroken c.walk.voucher) }) done went st) s in
     whole_blocks dirs (plan_of c.args.rules.now) c.args.now _ (g.D.Sink.taken c.walk.sink) (g.D.Sink.taken c.step.new.sink) _ (g.P.Sink.taken c.walk.echo) (g.P.Sink.taken c.step.new.echo) c.walk.progress.pending (c.in_err-step.ensures.whole (whole_by c.in_err-step.field-0.0 TreeFault (search rules) refl)) sw
 
 pub returns-in_err-come-clause-whole_tree : goal.returns-in_err-come-clause-whole_tree
@@ -353,7 +347,7 @@ returns-in_err-come-clause-unvouched g c = λ dirs told honest w.
     let told2 = g.met.T.Tree.keeps_dirs _ _ c.in-Ok.ensures.kept ∙ told in
     let time = c.later-time.ensures ∙ ap time_of f.times_are in
     let s0 : Split dirs (plan_of c.args.rules.now).pruned (plan_of c.args.rules.now).root (c.root_of-path.result ∷ []) (λ done went. Wrote (plan_of c.args.rules.now) c.args.now (g.D.Sink.taken c.args.sink.now) (g.D.Sink.taken c.put_front.new.sink) (g.P.Sink.taken c.args.echo.now) (g.P.Sink.taken c.args.echo.now) done) = root_split dirs (plan_of c.args.rules.now) c.root_of-path.result (λ done went. Wrote (plan_of c.args.rules.now) c.args.now (g.D.Sink.taken c.args.sink.now) (g.D.Sink.taken c.put_front.new.sink) (g.P.Sink.taken c.args.echo.now) (g.P.Sink.taken c.args.echo.now) done) root_is fits (wrote_header (plan_of c.args.rules.now) c.args.now _ _ _ c.in-Ok-put_front.ensures.ok) in
-    let room = unvouched_room dirs (plan_of c.args.rules.now) c.root_of-path.result [] (c.root_of-path.result ∷ []) (g.V.Voucher.records c.args.voucher.now) (λ done went. Wrote (plan_of c.args.rules.now) c.args.now (g.D.Sink.taken c.args.sink.now) (g.D.Sink.taken c.put_front.new.sink) (g.P.Sink.taken c.args.echo.now) (g.P.Sink.taken c.args.echo.now) done) path_fits refl s0 in
+    let room = unvouched_room dirs (plan_of c.args.rules.now) c.root_of-path.result [] (c.root_of-path.result ∷ []) (known (g.V.Voucher.records c.args.voucher.now)) (λ done went. Wrote (plan_of c.args.rules.now) c.args.now (g.D.Sink.taken c.args.sink.now) (g.D.Sink.taken c.put_front.new.sink) (g.P.Sink.taken c.args.echo.now) (g.P.Sink.taken c.args.echo.now) done) path_fits refl s0 in
     omega (arith, room, c.in-Ok.ensures.openings, c.in_err-come.ensures.opened dirs told2 f.dir f.is time w)
 
 pub returns-in_err-come-clause-stats : goal.returns-in_err-come-clause-stats
@@ -411,7 +405,7 @@ returns-in_err-come-clause-lacking g c = λ dirs told none.
 
 pub returns-clause-narrow : goal.returns-clause-narrow
 returns-clause-narrow g c = λ dirs told honest.
-    let all = split_end dirs (plan_of c.args.rules.now).pruned (plan_of c.args.rules.now).root c.walk.progress.pending (Stands (plan_of c.args.rules.now) c.args.now (record { taken = g.D.Sink.taken c.args.sink.now; echoed = g.P.Sink.taken c.args.echo.now; stats = g.T.Tree.stats c.args.tree.now + (if g.T.Tree.priced c.args.tree.now c.args.rules.now.root then 1 else 0); openings = g.T.Tree.openings c.args.tree.now; records = g.V.Voucher.records c.args.voucher.now; priced = g.T.Tree.priced c.args.tree.now; names = c.args.limits.now.names }) (record { standing = standing (g.D.Sink.taken c.walk.sink) (g.P.Sink.taken c.walk.echo) c.walk.progress; stats = g.T.Tree.stats c.walk.tree; openings = g.T.Tree.openings c.walk.tree; whole = g.V.Voucher.whole c.walk.voucher })) (when_false c.pop.result (c.walk.progress.pending ≡ c.pop.new.into ∷ c.pop.new.self) (c.walk.progress.pending ≡ []) c.walk-test.false c.pop.ensures.popped) (c.walk.invariant.told dirs told honest) in
+    let all = split_end dirs (plan_of c.args.rules.now).pruned (plan_of c.args.rules.now).root c.walk.progress.pending (Stands (plan_of c.args.rules.now) c.args.now (record { taken = g.D.Sink.taken c.args.sink.now; echoed = g.P.Sink.taken c.args.echo.now; stats = g.T.Tree.stats c.args.tree.now + (if g.T.Tree.priced c.args.tree.now c.args.rules.now.root then 1 else 0); openings = g.T.Tree.openings c.args.tree.now; records = known (g.V.Voucher.records c.args.voucher.now); priced = g.T.Tree.priced c.args.tree.now; names = c.args.limits.now.names }) (record { standing = standing (g.D.Sink.taken c.walk.sink) (g.P.Sink.taken c.walk.echo) c.walk.progress; stats = g.T.Tree.stats c.walk.tree; openings = g.T.Tree.openings c.walk.tree; whole = answers_all (g.V.Voucher.records c.args.voucher.now) (g.V.Voucher.ordered c.args.voucher.now) (g.V.Voucher.unbroken c.walk.voucher) })) (when_false c.pop.result (c.walk.progress.pending ≡ c.pop.new.into ∷ c.pop.new.self) (c.walk.progress.pending ≡ []) c.walk-test.false c.pop.ensures.popped) (c.walk.invariant.told dirs told honest) in
     all.narrow
 
 pub returns-in_err-step-clause-many_directories : goal.returns-in_err-step-clause-many_directories
@@ -433,44 +427,44 @@ pub returns-in_err-step-clause-stops : goal.returns-in_err-step-clause-stops
 returns-in_err-step-clause-stops g c = λ e dirs told honest.
     let fits = normal_fits c.pop.new.into (c.pop.ensures.normal c.walk-test.true) in
     let pend : c.walk.progress.pending ≡ c.pop.new.into ∷ c.pop.new.self = when_true c.pop.result (c.walk.progress.pending ≡ c.pop.new.into ∷ c.pop.new.self) (c.walk.progress.pending ≡ []) c.walk-test.true c.pop.ensures.popped in
-    let order = subst (InOrder (g.V.Voucher.floor c.walk.voucher)) pend c.walk.invariant.order in
+    let order = subst (Rises Apart) pend c.walk.invariant.order in
     let s = c.walk.invariant.told dirs told honest in
-    inr (c.pop.new.into, came_to dirs (plan_of c.args.rules.now) c.args.now (record { taken = g.D.Sink.taken c.args.sink.now; echoed = g.P.Sink.taken c.args.echo.now; stats = g.T.Tree.stats c.args.tree.now + (if g.T.Tree.priced c.args.tree.now c.args.rules.now.root then 1 else 0); openings = g.T.Tree.openings c.args.tree.now; records = g.V.Voucher.records c.args.voucher.now; priced = g.T.Tree.priced c.args.tree.now; names = c.args.limits.now.names }) (record { standing = standing (g.D.Sink.taken c.walk.sink) (g.P.Sink.taken c.walk.echo) c.walk.progress; stats = g.T.Tree.stats c.walk.tree; openings = g.T.Tree.openings c.walk.tree; whole = g.V.Voucher.whole c.walk.voucher }) c.args.limits.now.directories c.pop.new.into c.pop.new.self (g.D.Sink.taken c.step.new.sink) (g.P.Sink.taken c.step.new.echo) fits pend order.rise c.in_err-step.ensures.unpruned c.walk.invariant.tried (c.in_err-step.ensures.whole (whole_by c.in_err-step.field-0.0 TreeFault (search rules) refl)) s)
+    inr (c.pop.new.into, came_to dirs (plan_of c.args.rules.now) c.args.now (record { taken = g.D.Sink.taken c.args.sink.now; echoed = g.P.Sink.taken c.args.echo.now; stats = g.T.Tree.stats c.args.tree.now + (if g.T.Tree.priced c.args.tree.now c.args.rules.now.root then 1 else 0); openings = g.T.Tree.openings c.args.tree.now; records = known (g.V.Voucher.records c.args.voucher.now); priced = g.T.Tree.priced c.args.tree.now; names = c.args.limits.now.names }) (record { standing = standing (g.D.Sink.taken c.walk.sink) (g.P.Sink.taken c.walk.echo) c.walk.progress; stats = g.T.Tree.stats c.walk.tree; openings = g.T.Tree.openings c.walk.tree; whole = answers_all (g.V.Voucher.records c.args.voucher.now) (g.V.Voucher.ordered c.args.voucher.now) (g.V.Voucher.unbroken c.walk.voucher) }) c.args.limits.now.directories c.pop.new.into c.pop.new.self (g.D.Sink.taken c.step.new.sink) (g.P.Sink.taken c.step.new.echo) fits pend order c.in_err-step.ensures.unpruned c.walk.invariant.tried (c.in_err-step.ensures.whole (whole_by c.in_err-step.field-0.0 TreeFault (search rules) refl)) s)
 
 pub returns-in_err-come-clause-stops : goal.returns-in_err-come-clause-stops
 returns-in_err-come-clause-stops g c = λ e dirs told honest.
     let root_is : c.root_of-path.result ≡ c.args.rules.now.root = c.root_of-path.ensures in
     let fits = normal_fits c.args.rules.now.root c.requires.root in
-    inr (c.root_of-path.result, came_to_root (g.V.Voucher.records c.args.voucher.now) c.args.limits.now.names c.args.limits.now.directories dirs (plan_of c.args.rules.now) c.args.now _ (g.D.Sink.taken c.put_front.new.sink) (g.D.Sink.taken c.come.new.sink) (g.P.Sink.taken c.args.echo.now) (g.P.Sink.taken c.come.new.echo) c.root_of-path.result root_is fits (c.in_err-come.ensures.whole (whole_by c.in_err-come.field-0.0 TreeFault (search rules) refl)) (wrote_header (plan_of c.args.rules.now) c.args.now _ _ _ c.in-Ok-put_front.ensures.ok))
+    inr (c.root_of-path.result, came_to_root (known (g.V.Voucher.records c.args.voucher.now)) c.args.limits.now.names c.args.limits.now.directories dirs (plan_of c.args.rules.now) c.args.now _ (g.D.Sink.taken c.put_front.new.sink) (g.D.Sink.taken c.come.new.sink) (g.P.Sink.taken c.args.echo.now) (g.P.Sink.taken c.come.new.echo) c.root_of-path.result root_is fits (c.in_err-come.ensures.whole (whole_by c.in_err-come.field-0.0 TreeFault (search rules) refl)) (wrote_header (plan_of c.args.rules.now) c.args.now _ _ _ c.in-Ok-put_front.ensures.ok))
 
 pub returns-in_err-step-clause-stops_full : goal.returns-in_err-step-clause-stops_full
 returns-in_err-step-clause-stops_full g c = λ e dirs told honest.
     let fits = normal_fits c.pop.new.into (c.pop.ensures.normal c.walk-test.true) in
     let pend : c.walk.progress.pending ≡ c.pop.new.into ∷ c.pop.new.self = when_true c.pop.result (c.walk.progress.pending ≡ c.pop.new.into ∷ c.pop.new.self) (c.walk.progress.pending ≡ []) c.walk-test.true c.pop.ensures.popped in
-    let order = subst (InOrder (g.V.Voucher.floor c.walk.voucher)) pend c.walk.invariant.order in
+    let order = subst (Rises Apart) pend c.walk.invariant.order in
     let s = c.walk.invariant.told dirs told honest in
-    inr (c.pop.new.into, came_to dirs (plan_of c.args.rules.now) c.args.now (record { taken = g.D.Sink.taken c.args.sink.now; echoed = g.P.Sink.taken c.args.echo.now; stats = g.T.Tree.stats c.args.tree.now + (if g.T.Tree.priced c.args.tree.now c.args.rules.now.root then 1 else 0); openings = g.T.Tree.openings c.args.tree.now; records = g.V.Voucher.records c.args.voucher.now; priced = g.T.Tree.priced c.args.tree.now; names = c.args.limits.now.names }) (record { standing = standing (g.D.Sink.taken c.walk.sink) (g.P.Sink.taken c.walk.echo) c.walk.progress; stats = g.T.Tree.stats c.walk.tree; openings = g.T.Tree.openings c.walk.tree; whole = g.V.Voucher.whole c.walk.voucher }) c.args.limits.now.directories c.pop.new.into c.pop.new.self (g.D.Sink.taken c.step.new.sink) (g.P.Sink.taken c.step.new.echo) fits pend order.rise c.in_err-step.ensures.unpruned c.walk.invariant.tried (c.in_err-step.ensures.whole (whole_by c.in_err-step.field-0.0 TooManyDirectories (search rules) refl)) s)
+    inr (c.pop.new.into, came_to dirs (plan_of c.args.rules.now) c.args.now (record { taken = g.D.Sink.taken c.args.sink.now; echoed = g.P.Sink.taken c.args.echo.now; stats = g.T.Tree.stats c.args.tree.now + (if g.T.Tree.priced c.args.tree.now c.args.rules.now.root then 1 else 0); openings = g.T.Tree.openings c.args.tree.now; records = known (g.V.Voucher.records c.args.voucher.now); priced = g.T.Tree.priced c.args.tree.now; names = c.args.limits.now.names }) (record { standing = standing (g.D.Sink.taken c.walk.sink) (g.P.Sink.taken c.walk.echo) c.walk.progress; stats = g.T.Tree.stats c.walk.tree; openings = g.T.Tree.openings c.walk.tree; whole = answers_all (g.V.Voucher.records c.args.voucher.now) (g.V.Voucher.ordered c.args.voucher.now) (g.V.Voucher.unbroken c.walk.voucher) }) c.args.limits.now.directories c.pop.new.into c.pop.new.self (g.D.Sink.taken c.step.new.sink) (g.P.Sink.taken c.step.new.echo) fits pend order c.in_err-step.ensures.unpruned c.walk.invariant.tried (c.in_err-step.ensures.whole (whole_by c.in_err-step.field-0.0 TooManyDirectories (search rules) refl)) s)
 
 pub returns-in_err-come-clause-stops_full : goal.returns-in_err-come-clause-stops_full
 returns-in_err-come-clause-stops_full g c = λ e dirs told honest.
     let root_is : c.root_of-path.result ≡ c.args.rules.now.root = c.root_of-path.ensures in
     let fits = normal_fits c.args.rules.now.root c.requires.root in
-    inr (c.root_of-path.result, came_to_root (g.V.Voucher.records c.args.voucher.now) c.args.limits.now.names c.args.limits.now.directories dirs (plan_of c.args.rules.now) c.args.now _ (g.D.Sink.taken c.put_front.new.sink) (g.D.Sink.taken c.come.new.sink) (g.P.Sink.taken c.args.echo.now) (g.P.Sink.taken c.come.new.echo) c.root_of-path.result root_is fits (c.in_err-come.ensures.whole (whole_by c.in_err-come.field-0.0 TooManyDirectories (search rules) refl)) (wrote_header (plan_of c.args.rules.now) c.args.now _ _ _ c.in-Ok-put_front.ensures.ok))
+    inr (c.root_of-path.result, came_to_root (known (g.V.Voucher.records c.args.voucher.now)) c.args.limits.now.names c.args.limits.now.directories dirs (plan_of c.args.rules.now) c.args.now _ (g.D.Sink.taken c.put_front.new.sink) (g.D.Sink.taken c.come.new.sink) (g.P.Sink.taken c.args.echo.now) (g.P.Sink.taken c.come.new.echo) c.root_of-path.result root_is fits (c.in_err-come.ensures.whole (whole_by c.in_err-come.field-0.0 TooManyDirectories (search rules) refl)) (wrote_header (plan_of c.args.rules.now) c.args.now _ _ _ c.in-Ok-put_front.ensures.ok))
 
 pub returns-in_err-step-clause-stops_wide : goal.returns-in_err-step-clause-stops_wide
 returns-in_err-step-clause-stops_wide g c = λ e dirs told honest.
     let fits = normal_fits c.pop.new.into (c.pop.ensures.normal c.walk-test.true) in
     let pend : c.walk.progress.pending ≡ c.pop.new.into ∷ c.pop.new.self = when_true c.pop.result (c.walk.progress.pending ≡ c.pop.new.into ∷ c.pop.new.self) (c.walk.progress.pending ≡ []) c.walk-test.true c.pop.ensures.popped in
     let told2 = g.met.T.Tree.keeps_dirs _ _ c.walk.invariant.kept ∙ told in
-    let order = subst (InOrder (g.V.Voucher.floor c.walk.voucher)) pend c.walk.invariant.order in
+    let order = subst (Rises Apart) pend c.walk.invariant.order in
     let s = c.walk.invariant.told dirs told honest in
-    let keeps = subst (Keeps (g.V.Voucher.records c.args.voucher.now) (g.V.Voucher.records c.walk.voucher) (g.V.Voucher.whole c.walk.voucher)) pend c.walk.invariant.keeps in
+    let keeps = subst (Keeps (known (g.V.Voucher.records c.args.voucher.now)) (known (g.V.Voucher.records c.walk.voucher)) (answers_all (g.V.Voucher.records c.args.voucher.now) (g.V.Voucher.ordered c.args.voucher.now) (g.V.Voucher.unbroken c.walk.voucher))) pend c.walk.invariant.keeps in
     let n = c.in_err-step.ensures.many_names (search rules) dirs told2 in
     record {
       path = c.pop.new.into;
-      came = came_to dirs (plan_of c.args.rules.now) c.args.now (record { taken = g.D.Sink.taken c.args.sink.now; echoed = g.P.Sink.taken c.args.echo.now; stats = g.T.Tree.stats c.args.tree.now + (if g.T.Tree.priced c.args.tree.now c.args.rules.now.root then 1 else 0); openings = g.T.Tree.openings c.args.tree.now; records = g.V.Voucher.records c.args.voucher.now; priced = g.T.Tree.priced c.args.tree.now; names = c.args.limits.now.names }) (record { standing = standing (g.D.Sink.taken c.walk.sink) (g.P.Sink.taken c.walk.echo) c.walk.progress; stats = g.T.Tree.stats c.walk.tree; openings = g.T.Tree.openings c.walk.tree; whole = g.V.Voucher.whole c.walk.voucher }) c.args.limits.now.directories c.pop.new.into c.pop.new.self (g.D.Sink.taken c.step.new.sink) (g.P.Sink.taken c.step.new.echo) fits pend order.rise c.in_err-step.ensures.unpruned c.walk.invariant.tried (c.in_err-step.ensures.whole (whole_by c.in_err-step.field-0.0 TooManyNames (search rules) refl)) s;
+      came = came_to dirs (plan_of c.args.rules.now) c.args.now (record { taken = g.D.Sink.taken c.args.sink.now; echoed = g.P.Sink.taken c.args.echo.now; stats = g.T.Tree.stats c.args.tree.now + (if g.T.Tree.priced c.args.tree.now c.args.rules.now.root then 1 else 0); openings = g.T.Tree.openings c.args.tree.now; records = known (g.V.Voucher.records c.args.voucher.now); priced = g.T.Tree.priced c.args.tree.now; names = c.args.limits.now.names }) (record { standing = standing (g.D.Sink.taken c.walk.sink) (g.P.Sink.taken c.walk.echo) c.walk.progress; stats = g.T.Tree.stats c.walk.tree; openings = g.T.Tree.openings c.walk.tree; whole = answers_all (g.V.Voucher.records c.args.voucher.now) (g.V.Voucher.ordered c.args.voucher.now) (g.V.Voucher.unbroken c.walk.voucher) }) c.args.limits.now.directories c.pop.new.into c.pop.new.self (g.D.Sink.taken c.step.new.sink) (g.P.Sink.taken c.step.new.echo) fits pend order c.in_err-step.ensures.unpruned c.walk.invariant.tried (c.in_err-step.ensures.whole (whole_by c.in_err-step.field-0.0 TooManyNames (search rules) refl)) s;
       wide = n;
-      unvouched = λ w. (unvouched_entry (g.V.Voucher.records c.walk.voucher) (g.V.Voucher.records c.args.voucher.now) (g.V.Voucher.whole c.walk.voucher) c.pop.new.into c.pop.new.self (time_of n.dir.times) ((plan_of c.args.rules.now).device_of c.pop.new.into) c.walk.invariant.fewer (c.in_err-step.ensures.leaves.mark w) keeps (c.in_err-step.ensures.listed (search rules) dirs n.dir told2 n.there w));
+      unvouched = λ w. (unvouched_entry (known (g.V.Voucher.records c.walk.voucher)) (known (g.V.Voucher.records c.args.voucher.now)) (answers_all (g.V.Voucher.records c.args.voucher.now) (g.V.Voucher.ordered c.args.voucher.now) (g.V.Voucher.unbroken c.walk.voucher)) c.pop.new.into c.pop.new.self (time_of n.dir.times) ((plan_of c.args.rules.now).device_of c.pop.new.into) (fewer_known (g.V.Voucher.records c.args.voucher.now) (g.V.Voucher.records c.walk.voucher) (honest_known _ dirs (plan_of c.args.rules.now) honest) c.walk.invariant.fewer) (mark_before (g.V.Voucher.records c.args.voucher.now) (g.V.Voucher.ordered c.args.voucher.now) _ _ c.in_err-step.ensures.unbroken w) keeps (c.in_err-step.ensures.listed (search rules) dirs n.dir told2 n.there (mark_now (g.V.Voucher.records c.args.voucher.now) (g.V.Voucher.records c.walk.voucher) (g.V.Voucher.ordered c.args.voucher.now) _ _ c.walk.invariant.fewer c.walk.invariant.ordered w)));
     }
 
 pub returns-in_err-come-clause-stops_wide : goal.returns-in_err-come-clause-stops_wide
@@ -486,9 +480,9 @@ returns-in_err-come-clause-stops_wide g c = λ e dirs told honest.
     let same : n.dir ≡ f.dir = some_is n.dir f.dir (sym n.there ∙ f.is) in
     record {
       path = c.root_of-path.result;
-      came = came_to_root (g.V.Voucher.records c.args.voucher.now) c.args.limits.now.names c.args.limits.now.directories dirs (plan_of c.args.rules.now) c.args.now _ (g.D.Sink.taken c.put_front.new.sink) (g.D.Sink.taken c.come.new.sink) (g.P.Sink.taken c.args.echo.now) (g.P.Sink.taken c.come.new.echo) c.root_of-path.result root_is fits (c.in_err-come.ensures.whole (whole_by c.in_err-come.field-0.0 TooManyNames (search rules) refl)) (wrote_header (plan_of c.args.rules.now) c.args.now _ _ _ c.in-Ok-put_front.ensures.ok);
+      came = came_to_root (known (g.V.Voucher.records c.args.voucher.now)) c.args.limits.now.names c.args.limits.now.directories dirs (plan_of c.args.rules.now) c.args.now _ (g.D.Sink.taken c.put_front.new.sink) (g.D.Sink.taken c.come.new.sink) (g.P.Sink.taken c.args.echo.now) (g.P.Sink.taken c.come.new.echo) c.root_of-path.result root_is fits (c.in_err-come.ensures.whole (whole_by c.in_err-come.field-0.0 TooManyNames (search rules) refl)) (wrote_header (plan_of c.args.rules.now) c.args.now _ _ _ c.in-Ok-put_front.ensures.ok);
       wide = n;
-      unvouched = λ w. (ap (λ (d : Dir). is_vouched (g.V.Voucher.records c.args.voucher.now) c.root_of-path.result (time_of d.times) ((plan_of c.args.rules.now).device_of c.root_of-path.result)) same ∙ c.in_err-come.ensures.listed (search rules) dirs told2 f.dir f.is time w);
+      unvouched = λ w. (ap (λ (d : Dir). is_vouched (known (g.V.Voucher.records c.args.voucher.now)) c.root_of-path.result (time_of d.times) ((plan_of c.args.rules.now).device_of c.root_of-path.result)) same ∙ c.in_err-come.ensures.listed (search rules) dirs told2 f.dir f.is time w);
     }
 
 pub returns-in_err-step-clause-wide : goal.returns-in_err-step-clause-wide
@@ -497,10 +491,10 @@ returns-in_err-step-clause-wide g c = λ e dirs told honest w.
     let pend : c.walk.progress.pending ≡ c.pop.new.into ∷ c.pop.new.self = when_true c.pop.result (c.walk.progress.pending ≡ c.pop.new.into ∷ c.pop.new.self) (c.walk.progress.pending ≡ []) c.walk-test.true c.pop.ensures.popped in
     let told2 = g.met.T.Tree.keeps_dirs _ _ c.walk.invariant.kept ∙ told in
     let s = c.walk.invariant.told dirs told honest in
-    let keeps = subst (Keeps (g.V.Voucher.records c.args.voucher.now) (g.V.Voucher.records c.walk.voucher) (g.V.Voucher.whole c.walk.voucher)) pend c.walk.invariant.keeps in
+    let keeps = subst (Keeps (known (g.V.Voucher.records c.args.voucher.now)) (known (g.V.Voucher.records c.walk.voucher)) (answers_all (g.V.Voucher.records c.args.voucher.now) (g.V.Voucher.ordered c.args.voucher.now) (g.V.Voucher.unbroken c.walk.voucher))) pend c.walk.invariant.keeps in
     let n = c.in_err-step.ensures.many_names (search rules) dirs told2 in
-    wide_hand dirs (plan_of c.args.rules.now) c.pop.new.into c.pop.new.self c.walk.progress.pending (g.V.Voucher.records c.args.voucher.now) c.args.limits.now.names (Stands (plan_of c.args.rules.now) c.args.now (record { taken = g.D.Sink.taken c.args.sink.now; echoed = g.P.Sink.taken c.args.echo.now; stats = g.T.Tree.stats c.args.tree.now + (if g.T.Tree.priced c.args.tree.now c.args.rules.now.root then 1 else 0); openings = g.T.Tree.openings c.args.tree.now; records = g.V.Voucher.records c.args.voucher.now; priced = g.T.Tree.priced c.args.tree.now; names = c.args.limits.now.names }) (record { standing = standing (g.D.Sink.taken c.walk.sink) (g.P.Sink.taken c.walk.echo) c.walk.progress; stats = g.T.Tree.stats c.walk.tree; openings = g.T.Tree.openings c.walk.tree; whole = g.V.Voucher.whole c.walk.voucher })) fits pend n
-    (unvouched_entry (g.V.Voucher.records c.walk.voucher) (g.V.Voucher.records c.args.voucher.now) (g.V.Voucher.whole c.walk.voucher) c.pop.new.into c.pop.new.self (time_of n.dir.times) ((plan_of c.args.rules.now).device_of c.pop.new.into) c.walk.invariant.fewer (c.in_err-step.ensures.leaves.mark w) keeps (c.in_err-step.ensures.listed (search rules) dirs n.dir told2 n.there w)) s
+    wide_hand dirs (plan_of c.args.rules.now) c.pop.new.into c.pop.new.self c.walk.progress.pending (known (g.V.Voucher.records c.args.voucher.now)) c.args.limits.now.names (Stands (plan_of c.args.rules.now) c.args.now (record { taken = g.D.Sink.taken c.args.sink.now; echoed = g.P.Sink.taken c.args.echo.now; stats = g.T.Tree.stats c.args.tree.now + (if g.T.Tree.priced c.args.tree.now c.args.rules.now.root then 1 else 0); openings = g.T.Tree.openings c.args.tree.now; records = known (g.V.Voucher.records c.args.voucher.now); priced = g.T.Tree.priced c.args.tree.now; names = c.args.limits.now.names }) (record { standing = standing (g.D.Sink.taken c.walk.sink) (g.P.Sink.taken c.walk.echo) c.walk.progress; stats = g.T.Tree.stats c.walk.tree; openings = g.T.Tree.openings c.walk.tree; whole = answers_all (g.V.Voucher.records c.args.voucher.now) (g.V.Voucher.ordered c.args.voucher.now) (g.V.Voucher.unbroken c.walk.voucher) })) fits pend n
+    (unvouched_entry (known (g.V.Voucher.records c.walk.voucher)) (known (g.V.Voucher.records c.args.voucher.now)) (answers_all (g.V.Voucher.records c.args.voucher.now) (g.V.Voucher.ordered c.args.voucher.now) (g.V.Voucher.unbroken c.walk.voucher)) c.pop.new.into c.pop.new.self (time_of n.dir.times) ((plan_of c.args.rules.now).device_of c.pop.new.into) (fewer_known (g.V.Voucher.records c.args.voucher.now) (g.V.Voucher.records c.walk.voucher) (honest_known _ dirs (plan_of c.args.rules.now) honest) c.walk.invariant.fewer) (mark_before (g.V.Voucher.records c.args.voucher.now) (g.V.Voucher.ordered c.args.voucher.now) _ _ c.in_err-step.ensures.unbroken w) keeps (c.in_err-step.ensures.listed (search rules) dirs n.dir told2 n.there (mark_now (g.V.Voucher.records c.args.voucher.now) (g.V.Voucher.records c.walk.voucher) (g.V.Voucher.ordered c.args.voucher.now) _ _ c.walk.invariant.fewer c.walk.invariant.ordered w))) s
 
 pub returns-in_err-come-clause-wide : goal.returns-in_err-come-clause-wide
 returns-in_err-come-clause-wide g c = λ e dirs told honest w.
@@ -513,8 +507,8 @@ returns-in_err-come-clause-wide g c = λ e dirs told honest w.
     let s0 : Split dirs (plan_of c.args.rules.now).pruned (plan_of c.args.rules.now).root (c.root_of-path.result ∷ []) (λ done went. Wrote (plan_of c.args.rules.now) c.args.now (g.D.Sink.taken c.args.sink.now) (g.D.Sink.taken c.put_front.new.sink) (g.P.Sink.taken c.args.echo.now) (g.P.Sink.taken c.args.echo.now) done) = root_split dirs (plan_of c.args.rules.now) c.root_of-path.result (λ done went. Wrote (plan_of c.args.rules.now) c.args.now (g.D.Sink.taken c.args.sink.now) (g.D.Sink.taken c.put_front.new.sink) (g.P.Sink.taken c.args.echo.now) (g.P.Sink.taken c.args.echo.now) done) root_is fits (wrote_header (plan_of c.args.rules.now) c.args.now _ _ _ c.in-Ok-put_front.ensures.ok) in
     let n = c.in_err-come.ensures.many_names (search rules) dirs told2 f.dir f.is time in
     let same : n.dir ≡ f.dir = some_is n.dir f.dir (sym n.there ∙ f.is) in
-    wide_hand dirs (plan_of c.args.rules.now) c.root_of-path.result [] (c.root_of-path.result ∷ []) (g.V.Voucher.records c.args.voucher.now) c.args.limits.now.names (λ done went. Wrote (plan_of c.args.rules.now) c.args.now (g.D.Sink.taken c.args.sink.now) (g.D.Sink.taken c.put_front.new.sink) (g.P.Sink.taken c.args.echo.now) (g.P.Sink.taken c.args.echo.now) done) path_fits refl n
-    (ap (λ (d : Dir). is_vouched (g.V.Voucher.records c.args.voucher.now) c.root_of-path.result (time_of d.times) ((plan_of c.args.rules.now).device_of c.root_of-path.result)) same ∙ c.in_err-come.ensures.listed (search rules) dirs told2 f.dir f.is time w) s0
+    wide_hand dirs (plan_of c.args.rules.now) c.root_of-path.result [] (c.root_of-path.result ∷ []) (known (g.V.Voucher.records c.args.voucher.now)) c.args.limits.now.names (λ done went. Wrote (plan_of c.args.rules.now) c.args.now (g.D.Sink.taken c.args.sink.now) (g.D.Sink.taken c.put_front.new.sink) (g.P.Sink.taken c.args.echo.now) (g.P.Sink.taken c.args.echo.now) done) path_fits refl n
+    (ap (λ (d : Dir). is_vouched (known (g.V.Voucher.records c.args.voucher.now)) c.root_of-path.result (time_of d.times) ((plan_of c.args.rules.now).device_of c.root_of-path.result)) same ∙ c.in_err-come.ensures.listed (search rules) dirs told2 f.dir f.is time w) s0
 
 pub returns-in_err-step-clause-follows : goal.returns-in_err-step-clause-follows
 returns-in_err-step-clause-follows g c =
@@ -523,8 +517,8 @@ returns-in_err-step-clause-follows g c =
     let pend : c.walk.progress.pending ≡ c.pop.new.into ∷ c.pop.new.self = when_true c.pop.result (c.walk.progress.pending ≡ c.pop.new.into ∷ c.pop.new.self) (c.walk.progress.pending ≡ []) c.walk-test.true c.pop.ensures.popped in
     let told2 = g.met.T.Tree.keeps_dirs _ _ c.walk.invariant.kept ∙ told in
     let s = c.walk.invariant.told dirs told honest in
-    let relied = step_relied dirs (plan_of c.args.rules.now) c.pop.new.into c.pop.new.self c.walk.progress.pending (g.V.Voucher.records c.walk.voucher) (g.V.Voucher.records c.args.voucher.now) (Stands (plan_of c.args.rules.now) c.args.now (record { taken = g.D.Sink.taken c.args.sink.now; echoed = g.P.Sink.taken c.args.echo.now; stats = g.T.Tree.stats c.args.tree.now + (if g.T.Tree.priced c.args.tree.now c.args.rules.now.root then 1 else 0); openings = g.T.Tree.openings c.args.tree.now; records = g.V.Voucher.records c.args.voucher.now; priced = g.T.Tree.priced c.args.tree.now; names = c.args.limits.now.names }) (record { standing = standing (g.D.Sink.taken c.walk.sink) (g.P.Sink.taken c.walk.echo) c.walk.progress; stats = g.T.Tree.stats c.walk.tree; openings = g.T.Tree.openings c.walk.tree; whole = g.V.Voucher.whole c.walk.voucher })) c.walk.invariant.fewer honest fits pend s in
-    let sw : Split dirs (plan_of c.args.rules.now).pruned (plan_of c.args.rules.now).root c.walk.progress.pending (λ done went. Wrote (plan_of c.args.rules.now) c.args.now (g.D.Sink.taken c.args.sink.now) (g.D.Sink.taken c.walk.sink) (g.P.Sink.taken c.args.echo.now) (g.P.Sink.taken c.walk.echo) done) = split_map dirs (plan_of c.args.rules.now).pruned (plan_of c.args.rules.now).root c.walk.progress.pending (Stands (plan_of c.args.rules.now) c.args.now (record { taken = g.D.Sink.taken c.args.sink.now; echoed = g.P.Sink.taken c.args.echo.now; stats = g.T.Tree.stats c.args.tree.now + (if g.T.Tree.priced c.args.tree.now c.args.rules.now.root then 1 else 0); openings = g.T.Tree.openings c.args.tree.now; records = g.V.Voucher.records c.args.voucher.now; priced = g.T.Tree.priced c.args.tree.now; names = c.args.limits.now.names }) (record { standing = standing (g.D.Sink.taken c.walk.sink) (g.P.Sink.taken c.walk.echo) c.walk.progress; stats = g.T.Tree.stats c.walk.tree; openings = g.T.Tree.openings c.walk.tree; whole = g.V.Voucher.whole c.walk.voucher })) (λ done went. Wrote (plan_of c.args.rules.now) c.args.now (g.D.Sink.taken c.args.sink.now) (g.D.Sink.taken c.walk.sink) (g.P.Sink.taken c.args.echo.now) (g.P.Sink.taken c.walk.echo) done) (λ done went st. wrote_of (plan_of c.args.rules.now) c.args.now (record { taken = g.D.Sink.taken c.args.sink.now; echoed = g.P.Sink.taken c.args.echo.now; stats = g.T.Tree.stats c.args.tree.now + (if g.T.Tree.priced c.args.tree.now c.args.rules.now.root then 1 else 0); openings = g.T.Tree.openings c.args.tree.now; records = g.V.Voucher.records c.args.voucher.now; priced = g.T.Tree.priced c.args.tree.now; names = c.args.limits.now.names }) (record { standing = standing (g.D.Sink.taken c.walk.sink) (g.P.Sink.taken c.walk.echo) c.walk.progress; stats = g.T.Tree.stats c.walk.tree; openings = g.T.Tree.openings c.walk.tree; whole = g.V.Voucher.whole c.walk.voucher }) done went st) s in
+    let relied = step_relied dirs (plan_of c.args.rules.now) c.pop.new.into c.pop.new.self c.walk.progress.pending (g.V.Voucher.records c.walk.voucher) (g.V.Voucher.records c.args.voucher.now) (Stands (plan_of c.args.rules.now) c.args.now (record { taken = g.D.Sink.taken c.args.sink.now; echoed = g.P.Sink.taken c.args.echo.now; stats = g.T.Tree.stats c.args.tree.now + (if g.T.Tree.priced c.args.tree.now c.args.rules.now.root then 1 else 0); openings = g.T.Tree.openings c.args.tree.now; records = known (g.V.Voucher.records c.args.voucher.now); priced = g.T.Tree.priced c.args.tree.now; names = c.args.limits.now.names }) (record { standing = standing (g.D.Sink.taken c.walk.sink) (g.P.Sink.taken c.walk.echo) c.walk.progress; stats = g.T.Tree.stats c.walk.tree; openings = g.T.Tree.openings c.walk.tree; whole = answers_all (g.V.Voucher.records c.args.voucher.now) (g.V.Voucher.ordered c.args.voucher.now) (g.V.Voucher.unbroken c.walk.voucher) })) c.walk.invariant.fewer honest fits pend s in
+    let sw : Split dirs (plan_of c.args.rules.now).pruned (plan_of c.args.rules.now).root c.walk.progress.pending (λ done went. Wrote (plan_of c.args.rules.now) c.args.now (g.D.Sink.taken c.args.sink.now) (g.D.Sink.taken c.walk.sink) (g.P.Sink.taken c.args.echo.now) (g.P.Sink.taken c.walk.echo) done) = split_map dirs (plan_of c.args.rules.now).pruned (plan_of c.args.rules.now).root c.walk.progress.pending (Stands (plan_of c.args.rules.now) c.args.now (record { taken = g.D.Sink.taken c.args.sink.now; echoed = g.P.Sink.taken c.args.echo.now; stats = g.T.Tree.stats c.args.tree.now + (if g.T.Tree.priced c.args.tree.now c.args.rules.now.root then 1 else 0); openings = g.T.Tree.openings c.args.tree.now; records = known (g.V.Voucher.records c.args.voucher.now); priced = g.T.Tree.priced c.args.tree.now; names = c.args.limits.now.names }) (record { standing = standing (g.D.Sink.taken c.walk.sink) (g.P.Sink.taken c.walk.echo) c.walk.progress; stats = g.T.Tree.stats c.walk.tree; openings = g.T.Tree.openings c.walk.tree; whole = answers_all (g.V.Voucher.records c.args.voucher.now) (g.V.Voucher.ordered c.args.voucher.now) (g.V.Voucher.unbroken c.walk.voucher) })) (λ done went. Wrote (plan_of c.args.rules.now) c.args.now (g.D.Sink.taken c.args.sink.now) (g.D.Sink.taken c.walk.sink) (g.P.Sink.taken c.args.echo.now) (g.P.Sink.taken c.walk.echo) done) (λ done went st. wrote_of (plan_of c.args.rules.now) c.args.now (record { taken = g.D.Sink.taken c.args.sink.now; echoed = g.P.Sink.taken c.args.echo.now; stats = g.T.Tree.stats c.args.tree.now + (if g.T.Tree.priced c.args.tree.now c.args.rules.now.root then 1 else 0); openings = g.T.Tree.openings c.args.tree.now; records = known (g.V.Voucher.records c.args.voucher.now); priced = g.T.Tree.priced c.args.tree.now; names = c.args.limits.now.names }) (record { standing = standing (g.D.Sink.taken c.walk.sink) (g.P.Sink.taken c.walk.echo) c.walk.progress; stats = g.T.Tree.stats c.walk.tree; openings = g.T.Tree.openings c.walk.tree; whole = answers_all (g.V.Voucher.records c.args.voucher.now) (g.V.Voucher.ordered c.args.voucher.now) (g.V.Voucher.unbroken c.walk.voucher) }) done went st) s in
     (breaks_off dirs (plan_of c.args.rules.now) c.args.now _ _ (g.D.Sink.taken c.step.new.sink) _ _ (g.P.Sink.taken c.step.new.echo) c.pop.new.into c.pop.new.self c.walk.progress.pending fits pend sw (c.in_err-step.ensures.breaks dirs told2 relied)).follows in
     when_err _ _ p
 
@@ -538,7 +532,7 @@ returns-in_err-come-clause-follows g c =
     let told2 = g.met.T.Tree.keeps_dirs _ _ c.in-Ok.ensures.kept ∙ told in
     let time = c.later-time.ensures ∙ ap time_of f.times_are in
     let s0 : Split dirs (plan_of c.args.rules.now).pruned (plan_of c.args.rules.now).root (c.root_of-path.result ∷ []) (λ done went. Wrote (plan_of c.args.rules.now) c.args.now (g.D.Sink.taken c.args.sink.now) (g.D.Sink.taken c.put_front.new.sink) (g.P.Sink.taken c.args.echo.now) (g.P.Sink.taken c.args.echo.now) done) = root_split dirs (plan_of c.args.rules.now) c.root_of-path.result (λ done went. Wrote (plan_of c.args.rules.now) c.args.now (g.D.Sink.taken c.args.sink.now) (g.D.Sink.taken c.put_front.new.sink) (g.P.Sink.taken c.args.echo.now) (g.P.Sink.taken c.args.echo.now) done) root_is fits (wrote_header (plan_of c.args.rules.now) c.args.now _ _ _ c.in-Ok-put_front.ensures.ok) in
-    let relied = step_relied dirs (plan_of c.args.rules.now) c.root_of-path.result [] (c.root_of-path.result ∷ []) (g.V.Voucher.records c.args.voucher.now) (g.V.Voucher.records c.args.voucher.now) (λ done went. Wrote (plan_of c.args.rules.now) c.args.now (g.D.Sink.taken c.args.sink.now) (g.D.Sink.taken c.put_front.new.sink) (g.P.Sink.taken c.args.echo.now) (g.P.Sink.taken c.args.echo.now) done) (λ r h. h) honest path_fits refl s0 in
+    let relied = step_relied dirs (plan_of c.args.rules.now) c.root_of-path.result [] (c.root_of-path.result ∷ []) (g.V.Voucher.records c.args.voucher.now) (g.V.Voucher.records c.args.voucher.now) (λ done went. Wrote (plan_of c.args.rules.now) c.args.now (g.D.Sink.taken c.args.sink.now) (g.D.Sink.taken c.put_front.new.sink) (g.P.Sink.taken c.args.echo.now) (g.P.Sink.taken c.args.echo.now) done) (fewer_same (g.V.Voucher.records c.args.voucher.now)) honest path_fits refl s0 in
     (breaks_off dirs (plan_of c.args.rules.now) c.args.now _ _ (g.D.Sink.taken c.come.new.sink) _ _ (g.P.Sink.taken c.come.new.echo) c.root_of-path.result [] (c.root_of-path.result ∷ []) path_fits refl s0 (c.in_err-come.ensures.breaks dirs told2 f.dir f.is time relied)).follows in
     when_err _ _ p
 

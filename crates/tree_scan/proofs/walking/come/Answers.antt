@@ -4,11 +4,12 @@ use Rattle.loc_outside.specs.Causes.{raised}
 use Rattle.loc_outside.specs.Trees.{Dir, Dirs}
 use Rattle.tree_scan.specs.Blocks.{time_of}
 use Rattle.tree_scan.specs.Plans.{plan_of}
-use Rattle.tree_scan.specs.Records.{Relied}
+use Rattle.tree_scan.specs.Records.{Relied, known}
 use Rattle.tree_scan.specs.Walks.{Breaks}
 use Rattle.tree_scan.proofs.Pieces.{when_err}
 use Rattle.tree_scan.proofs.Told.{nothing_pruned}
-use Rattle.tree_scan.proofs.Visits.{passes_nothing, no_children, leaves_same, raised_nothing, here_once, opens_one, opens_none}
+use Rattle.tree_scan.proofs.Asking.{leaves_same}
+use Rattle.tree_scan.proofs.Visits.{passes_nothing, no_children, raised_nothing, here_once, opens_one, opens_none}
 use Rattle.tree_scan.proofs.walking.come.Goals as goal
 
 pub returns-then-prunes-clause-done : goal.returns-then-prunes-clause-done
@@ -25,7 +26,7 @@ pub returns-then-prunes-clause-adds : goal.returns-then-prunes-clause-adds
 returns-then-prunes-clause-adds g c = no_children _ _
 
 pub returns-then-prunes-clause-leaves : goal.returns-then-prunes-clause-leaves
-returns-then-prunes-clause-leaves g c = leaves_same _ _ _
+returns-then-prunes-clause-leaves g c = leaves_same _ _ _ _
 
 pub returns-clause-done : goal.returns-clause-done
 returns-clause-done g c = λ dirs told there found time relied.
@@ -40,7 +41,7 @@ returns-clause-seen g c = λ dirs told there found time.
 pub returns-clause-opened : goal.returns-clause-opened
 returns-clause-opened g c = λ dirs told there found time w.
     let unpruned : (plan_of c.args.rules.now).pruned c.args.path.now ≡ false = ap (plan_of c.args.rules.now).pruned (sym c.bytes.ensures.value) ∙ sym c.prunes.ensures ∙ c.if-prunes.false in
-    omega (arith, opens_one (g.V.Voucher.records c.args.voucher.now) dirs (plan_of c.args.rules.now) c.args.path.now there c.args.time found unpruned time, c.in_ok-visit.ensures.opened w)
+    omega (arith, opens_one (known (g.V.Voucher.records c.args.voucher.now)) dirs (plan_of c.args.rules.now) c.args.path.now there c.args.time found unpruned time, c.in_ok-visit.ensures.opened w)
 
 pub returns-in_err-visit-clause-seen : goal.returns-in_err-visit-clause-seen
 returns-in_err-visit-clause-seen g c = λ dirs told there found time.
@@ -50,12 +51,12 @@ returns-in_err-visit-clause-seen g c = λ dirs told there found time.
 pub returns-in_err-visit-clause-opened : goal.returns-in_err-visit-clause-opened
 returns-in_err-visit-clause-opened g c = λ dirs told there found time w.
     let unpruned : (plan_of c.args.rules.now).pruned c.args.path.now ≡ false = ap (plan_of c.args.rules.now).pruned (sym c.bytes.ensures.value) ∙ sym c.prunes.ensures ∙ c.if-prunes.false in
-    omega (arith, opens_one (g.V.Voucher.records c.args.voucher.now) dirs (plan_of c.args.rules.now) c.args.path.now there c.args.time found unpruned time, c.in_err-visit.ensures.opened w)
+    omega (arith, opens_one (known (g.V.Voucher.records c.args.voucher.now)) dirs (plan_of c.args.rules.now) c.args.path.now there c.args.time found unpruned time, c.in_err-visit.ensures.opened w)
 
 pub returns-clause-exact : goal.returns-clause-exact
 returns-clause-exact g c = λ dirs told there found time w.
     let unpruned : (plan_of c.args.rules.now).pruned c.args.path.now ≡ false = ap (plan_of c.args.rules.now).pruned (sym c.bytes.ensures.value) ∙ sym c.prunes.ensures ∙ c.if-prunes.false in
-    c.in_ok-visit.ensures.exact w ∙ ap (raised (g.T.Tree.openings c.args.tree.now)) (sym (opens_one (g.V.Voucher.records c.args.voucher.now) dirs (plan_of c.args.rules.now) c.args.path.now there c.args.time found unpruned time))
+    c.in_ok-visit.ensures.exact w ∙ ap (raised (g.T.Tree.openings c.args.tree.now)) (sym (opens_one (known (g.V.Voucher.records c.args.voucher.now)) dirs (plan_of c.args.rules.now) c.args.path.now there c.args.time found unpruned time))
 
 pub returns-in_err-visit-clause-many : goal.returns-in_err-visit-clause-many
 returns-in_err-visit-clause-many g c = λ e dirs told there found time.
