@@ -7,6 +7,7 @@ ghost use Rattle.loc_outside.specs.Trees.{Dirs, Dir};
 ghost use Rattle.tree_scan.specs.Blocks.{time_of};
 ghost use Rattle.tree_scan.specs.Plans.{plan_of};
 ghost use Rattle.tree_scan.specs.Records.{answers_all, known, Leaves, Relied, is_vouched};
+ghost use Rattle.tree_scan.specs.Stops.{taken};
 ghost use Rattle.tree_scan.specs.Walks.{standing, Passes, Breaks, Counted, AddsChildren, is_whole_after};
 
 use crate::children::push_children;
@@ -40,7 +41,7 @@ pub(crate) fn visit<T: Tree, V: Voucher, D: Sink, P: Sink>(
     requires unpruned { (plan_of rules.now).pruned path.old ≡ false }
     ensures no_missing { IsErrOf result ScanFault.RootMissing → ⊥ }
     ensures shown { OnOk result ((dirs : Dirs) (dir : Dir) → T.dirs tree.old ≡ Some dirs → get dirs path.old ≡ Some dir → time ≡ time_of dir.times → Relied (V.records voucher.old) ((plan_of rules.now).device_of path.old) path.old dir → Passes dirs (plan_of rules.now) now path.old (standing (D.taken sink.old) (P.taken echo.old) progress.old) (standing (D.taken sink.new) (P.taken echo.new) progress.new)) }
-    ensures breaks { OnErr result ((dirs : Dirs) (dir : Dir) → T.dirs tree.old ≡ Some dirs → get dirs path.old ≡ Some dir → time ≡ time_of dir.times → Relied (V.records voucher.old) ((plan_of rules.now).device_of path.old) path.old dir → Breaks dirs (plan_of rules.now) now path.old (D.taken sink.old) (D.taken sink.new) (P.taken echo.old) (P.taken echo.new)) }
+    ensures breaks { OnErr result ((dirs : Dirs) (dir : Dir) → T.dirs tree.old ≡ Some dirs → get dirs path.old ≡ Some dir → time ≡ time_of dir.times → Relied (V.records voucher.old) ((plan_of rules.now).device_of path.old) path.old dir → Breaks dirs (plan_of rules.now) now path.old (taken (D.taken sink.old) (P.taken echo.old)) (taken (D.taken sink.new) (P.taken echo.new))) }
     ensures tried { OnOk result (progress.new.tried ≡ progress.old.tried + 1) }
     ensures once { progress.new.tried ≤ progress.old.tried + 1 }
     ensures more { OnOk result (length progress.new.pending ≤ length progress.old.pending + 16777216) }

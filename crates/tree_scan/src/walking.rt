@@ -9,7 +9,8 @@ ghost use Rattle.tree_scan.specs.Plans.{plan_of};
 ghost use Rattle.tree_scan.specs.Records.{answers_all, known, Leaves, Relied, is_vouched, unvouched};
 ghost use Rattle.tree_scan.specs.Reach.{is_open, is_tried};
 ghost use Rattle.tree_scan.specs.Steps.{here, weight};
-ghost use Rattle.tree_scan.specs.Walks.{standing, Passes, Breaks, Counted, AddsChildren, NamesMore, Narrow, is_whole_after, opens};
+ghost use Rattle.tree_scan.specs.Stops.{NamesMore, Narrow, taken};
+ghost use Rattle.tree_scan.specs.Walks.{standing, Passes, Breaks, Counted, AddsChildren, is_whole_after, opens};
 
 use crate::progress::Progress;
 use crate::visiting::visit;
@@ -39,7 +40,7 @@ pub(crate) fn come<T: Tree, V: Voucher, D: Sink, P: Sink>(
     requires normal { IsTrue (is_normal path.old) }
     ensures no_missing { IsErrOf result ScanFault.RootMissing → ⊥ }
     ensures done { OnOk result ((dirs : Dirs) → T.dirs tree.old ≡ Some dirs → (there : Dir) → get dirs path.old ≡ Some there → time ≡ time_of there.times → ((dir : Dir) → get dirs path.old ≡ Some dir → (plan_of rules.now).pruned path.old ≡ false → Relied (V.records voucher.old) ((plan_of rules.now).device_of path.old) path.old dir) → Passes dirs (plan_of rules.now) now path.old (standing (D.taken sink.old) (P.taken echo.old) progress.old) (standing (D.taken sink.new) (P.taken echo.new) progress.new)) }
-    ensures breaks { OnErr result ((dirs : Dirs) → T.dirs tree.old ≡ Some dirs → (there : Dir) → get dirs path.old ≡ Some there → time ≡ time_of there.times → ((dir : Dir) → get dirs path.old ≡ Some dir → (plan_of rules.now).pruned path.old ≡ false → Relied (V.records voucher.old) ((plan_of rules.now).device_of path.old) path.old dir) → Breaks dirs (plan_of rules.now) now path.old (D.taken sink.old) (D.taken sink.new) (P.taken echo.old) (P.taken echo.new)) }
+    ensures breaks { OnErr result ((dirs : Dirs) → T.dirs tree.old ≡ Some dirs → (there : Dir) → get dirs path.old ≡ Some there → time ≡ time_of there.times → ((dir : Dir) → get dirs path.old ≡ Some dir → (plan_of rules.now).pruned path.old ≡ false → Relied (V.records voucher.old) ((plan_of rules.now).device_of path.old) path.old dir) → Breaks dirs (plan_of rules.now) now path.old (taken (D.taken sink.old) (P.taken echo.old)) (taken (D.taken sink.new) (P.taken echo.new))) }
     ensures seen { (dirs : Dirs) → T.dirs tree.old ≡ Some dirs → (there : Dir) → get dirs path.old ≡ Some there → time ≡ time_of there.times → progress.new.tried ≤ progress.old.tried + length (here dirs (is_tried (plan_of rules.now).pruned) path.old) }
     ensures many { IsErrOf result ScanFault.TooManyDirectories → (dirs : Dirs) → T.dirs tree.old ≡ Some dirs → (there : Dir) → get dirs path.old ≡ Some there → time ≡ time_of there.times → limits.now.directories < progress.old.tried + length (here dirs (is_tried (plan_of rules.now).pruned) path.old) }
     ensures kept_limit { OnOk result (IsSome (V.records voucher.old) → (dirs : Dirs) → T.dirs tree.old ≡ Some dirs → (there : Dir) → get dirs path.old ≡ Some there → time ≡ time_of there.times → Narrow limits.now.names (unvouched (known (V.records voucher.old)) (plan_of rules.now) (here dirs (is_open (plan_of rules.now).pruned) path.old))) }
@@ -101,7 +102,7 @@ pub(crate) fn step<T: Tree, V: Voucher, D: Sink, P: Sink>(
     requires normal { IsTrue (is_normal path.old) }
     ensures no_missing { IsErrOf result ScanFault.RootMissing → ⊥ }
     ensures done { OnOk result ((dirs : Dirs) → T.dirs tree.old ≡ Some dirs → ((dir : Dir) → get dirs path.old ≡ Some dir → (plan_of rules.now).pruned path.old ≡ false → Relied (V.records voucher.old) ((plan_of rules.now).device_of path.old) path.old dir) → Passes dirs (plan_of rules.now) now path.old (standing (D.taken sink.old) (P.taken echo.old) progress.old) (standing (D.taken sink.new) (P.taken echo.new) progress.new)) }
-    ensures breaks { OnErr result ((dirs : Dirs) → T.dirs tree.old ≡ Some dirs → ((dir : Dir) → get dirs path.old ≡ Some dir → (plan_of rules.now).pruned path.old ≡ false → Relied (V.records voucher.old) ((plan_of rules.now).device_of path.old) path.old dir) → Breaks dirs (plan_of rules.now) now path.old (D.taken sink.old) (D.taken sink.new) (P.taken echo.old) (P.taken echo.new)) }
+    ensures breaks { OnErr result ((dirs : Dirs) → T.dirs tree.old ≡ Some dirs → ((dir : Dir) → get dirs path.old ≡ Some dir → (plan_of rules.now).pruned path.old ≡ false → Relied (V.records voucher.old) ((plan_of rules.now).device_of path.old) path.old dir) → Breaks dirs (plan_of rules.now) now path.old (taken (D.taken sink.old) (P.taken echo.old)) (taken (D.taken sink.new) (P.taken echo.new))) }
     ensures seen { (dirs : Dirs) → T.dirs tree.old ≡ Some dirs → progress.new.tried ≤ progress.old.tried + length (here dirs (is_tried (plan_of rules.now).pruned) path.old) }
     ensures many { IsErrOf result ScanFault.TooManyDirectories → (dirs : Dirs) → T.dirs tree.old ≡ Some dirs → limits.now.directories < progress.old.tried + length (here dirs (is_tried (plan_of rules.now).pruned) path.old) }
     ensures kept_limit { OnOk result (IsSome (V.records voucher.old) → (dirs : Dirs) → T.dirs tree.old ≡ Some dirs → Narrow limits.now.names (unvouched (known (V.records voucher.old)) (plan_of rules.now) (here dirs (is_open (plan_of rules.now).pruned) path.old))) }

@@ -16,7 +16,7 @@ invariant-walk g l = record {
   told : (dirs : Dirs) → g.T.Tree.dirs l.fn.tree ≡ Some dirs → Honest (g.V.Voucher.records l.fn.voucher) dirs (plan_of l.fn.rules) →
       Split dirs (plan_of l.fn.rules).pruned (plan_of l.fn.rules).root l.progress.pending
       (Stands (plan_of l.fn.rules) l.fn.now
-      (record { taken = g.D.Sink.taken l.fn.sink; echoed = g.P.Sink.taken l.fn.echo; stats = g.T.Tree.stats l.fn.tree + (if g.T.Tree.priced l.fn.tree l.fn.rules.root then 1 else 0); openings = g.T.Tree.openings l.fn.tree; records = known (g.V.Voucher.records l.fn.voucher); priced = g.T.Tree.priced l.fn.tree; names = l.fn.limits.names })
+      (record { taken = g.D.Sink.taken l.fn.sink; echoed = g.P.Sink.taken l.fn.echo; stats = g.T.Tree.stats l.fn.tree + (if g.T.Tree.priced l.fn.tree l.fn.rules.root then 1 else 0); openings = g.T.Tree.openings l.fn.tree; records = known (g.V.Voucher.records l.fn.voucher); priced = g.T.Tree.priced l.fn.tree; limits = l.fn.limits })
       (record { standing = standing (g.D.Sink.taken l.sink) (g.P.Sink.taken l.echo) l.progress; stats = g.T.Tree.stats l.tree; openings = g.T.Tree.openings l.tree; whole = answers_all (g.V.Voucher.records l.fn.voucher) (g.V.Voucher.ordered l.fn.voucher) (g.V.Voucher.unbroken l.voucher) }));
   there : (dirs : Dirs) → g.T.Tree.dirs l.fn.tree ≡ Some dirs → get dirs l.fn.rules.root ≡ None → ⊥;
   visited : (dirs : Dirs) → g.T.Tree.dirs l.fn.tree ≡ Some dirs → Visited dirs l.progress.pending l.progress.tried;

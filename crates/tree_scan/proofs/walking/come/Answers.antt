@@ -5,6 +5,7 @@ use Rattle.loc_outside.specs.Trees.{Dir, Dirs}
 use Rattle.tree_scan.specs.Blocks.{time_of}
 use Rattle.tree_scan.specs.Plans.{plan_of}
 use Rattle.tree_scan.specs.Records.{Relied, known}
+use Rattle.tree_scan.specs.Stops.{taken}
 use Rattle.tree_scan.specs.Walks.{Breaks}
 use Rattle.tree_scan.proofs.Pieces.{when_err}
 use Rattle.tree_scan.proofs.Told.{nothing_pruned}
@@ -72,7 +73,7 @@ returns-in_err-visit-clause-many_names g c = λ e dirs told there found time.
 pub returns-in_err-visit-clause-breaks : goal.returns-in_err-visit-clause-breaks
 returns-in_err-visit-clause-breaks g c =
     let p : (dirs : Dirs) → g.T.Tree.dirs c.args.tree.now ≡ Some dirs → (there : Dir) → get dirs c.args.path.now ≡ Some there → c.args.time ≡ time_of there.times → ((dir : Dir) → get dirs c.args.path.now ≡ Some dir → (plan_of c.args.rules.now).pruned c.args.path.now ≡ false → Relied (g.V.Voucher.records c.args.voucher.now) ((plan_of c.args.rules.now).device_of c.args.path.now) c.args.path.now dir)
-    → Breaks dirs (plan_of c.args.rules.now) c.args.now c.args.path.now (g.D.Sink.taken c.args.sink.now) (g.D.Sink.taken c.visit.new.sink) (g.P.Sink.taken c.args.echo.now) (g.P.Sink.taken c.visit.new.echo) =
+    → Breaks dirs (plan_of c.args.rules.now) c.args.now c.args.path.now (taken (g.D.Sink.taken c.args.sink.now) (g.P.Sink.taken c.args.echo.now)) (taken (g.D.Sink.taken c.visit.new.sink) (g.P.Sink.taken c.visit.new.echo)) =
     λ dirs told there found time relied.
     let unpruned : (plan_of c.args.rules.now).pruned c.args.path.now ≡ false = ap (plan_of c.args.rules.now).pruned (sym c.bytes.ensures.value) ∙ sym c.prunes.ensures ∙ c.if-prunes.false in
     c.in_err-visit.ensures.breaks dirs there told found time (relied there found unpruned) in
