@@ -1,0 +1,4 @@
+pub mod Usable
+pub mod Coming
+pub mod Seeking
+pub mod Naming
