@@ -1,2 +1,5 @@
 pub mod Passing
 pub mod Names
+pub mod Answering
+pub mod Cursors
+pub mod Stream

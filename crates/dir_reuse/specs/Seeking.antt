@@ -3,7 +3,6 @@ use Rattle.std.specs.Prelude.{◌≡◌, ◌≤◌, ℕ, false, true, List, leng
 use Rattle.std.specs.declared.option.Option.{Option}
 use Rattle.std.specs.declared.cmp.Ordering.TheVariants.{Less, Greater}
 use Rattle.path_order.specs.Order.{path_cmp}
-use Rattle.byte_feed.specs.Field.{IsText}
 use Rattle.byte_feed.specs.declared.damage.DbFault.{DbFault}
 use Rattle.byte_feed.specs.declared.damage.DbFault.TheVariants as faults
 use Rattle.mlocate_db.specs.declared.db_reader.Stage.TheVariants as stages
@@ -16,7 +15,6 @@ use Rattle.dir_reuse.specs.Coming.{coming, coming_at, GoesKnown, StopsKnown}
 pub record AtHead (r : ReaderState) : Type 0 where
   pub inside : r.stage ≡ stages.Inside
   pub whole : r.dir_len ≡ length r.path
-  pub text : IsText 4096 r.path
   pub near : r.feed.offset ≡ r.place
   pub held : length r.feed.held ≤ 4096
 

@@ -1,5 +1,9 @@
 //! Reuse of an old database: its records, and the vouchers that answer from them.
 #![tactic(auto)]
 
+mod cursor;
 mod naming;
 mod seeking;
+mod stream_voucher;
+
+pub use stream_voucher::StreamVoucher;

@@ -1,0 +1,71 @@
+//! A voucher that reads an old database once, forward only.
+ghost use Rattle.std.specs.Prelude.{◌≡◌, ◌≤◌, ⊤, IsTrue, false, refl};
+ghost use Rattle.std.proofs.Common.{◌∙◌};
+ghost use Rattle.loc_outside.specs.Causes.{Rose};
+ghost use Rattle.dir_reuse.specs.Answering.{is_sound};
+ghost use Rattle.tree_scan.specs.Plans.{plan_of};
+ghost use Rattle.dir_reuse.specs.Stream.{OpensKnown, known, is_known_ordered};
+ghost use Rattle.dir_reuse.specs.Faults.{rose_first, rose_last, at_most_trans, at_most_itself};
+
+use crate::cursor::Cursor;
+use loc_outside::Source;
+use path_order::{NameList, Stamp};
+use std::alloc::AllocError;
+use tree_scan::{Rules, Voucher};
+
+/// The records of an old database, read forward only while directories are asked for in path order. It borrows the
+/// source, holds one path and one buffer, and takes no memory of its own.
+pub struct StreamVoucher<'a, S> {
+    src: &'a mut S,
+    cursor: Cursor,
+}
+
+impl<'a, S: Source> StreamVoucher<'a, S> {
+    /// Reads the header of the old database that is left in the source. Its records can vouch only where its root is that
+    /// of the rules and its configuration block is this one, which is theirs.
+    pub fn open_on(src: &'a mut S, rules: &Rules, block: &[u8]) -> StreamVoucher<'a, S>
+        requires { block.now ≡ (plan_of rules.now).block }
+        ensures same { result.src.ghost_name ≡ src.entry.ghost_name }
+        ensures opened { OpensKnown (plan_of rules.now).root block.now (S.left src.old) result.cursor (S.left result.src.now) }
+        ensures sound { IsTrue (is_sound result.cursor) }
+        ensures broke { result.cursor.unbroken ≡ false → Rose (S.faults src.old) (S.faults result.src.now) }
+        ensures later { S.faults src.old ≤ S.faults result.src.now }
+        ensures kept { S.kept src.old result.src.now }
+    {
+        let cursor = Cursor::open_on(src, rules.root.bytes(), block);
+        StreamVoucher { src, cursor }
+    }
+}
+
+impl<S: Source> Voucher for StreamVoucher<'_, S> {
+    ghost records = { λ v. known v.cursor (S.left v.src.now) };
+
+    ghost unbroken = { λ v. v.cursor.unbroken };
+
+    ghost ordered = { λ v. is_known_ordered v.cursor (S.left v.src.now) };
+
+    ghost sound = { λ v. is_sound v.cursor };
+
+    ghost reach = { λ v dir w. ⊤ };
+
+    ghost kept = { λ v w. (w.src.ghost_name ≡ v.src.ghost_name) × S.kept v.src.now w.src.now × (S.faults v.src.now ≤ S.faults w.src.now) × ((Rose (S.faults v.src.now) (S.faults w.src.now) → ⊥) → w.cursor.unbroken ≡ v.cursor.unbroken) };
+
+    fn vouch(
+        &mut self,
+        dir: &[u8],
+        stamp: Stamp,
+        device: u32,
+        into: &mut NameList,
+    ) -> Result<bool, AllocError> {
+        self.cursor.vouch(self.src, dir, stamp, device, into)
+    }
+
+    ghost keeps_itself = { λ s. (refl, S.keeps_itself s.src.now, at_most_itself (S.faults s.src.now), λ h. refl) };
+
+    ghost keeps_on = { λ s t u first then. (
+      then.0 ∙ first.0,
+      S.keeps_on s.src.now t.src.now u.src.now first.1 then.1,
+      at_most_trans (S.faults s.src.now) (S.faults t.src.now) (S.faults u.src.now) first.2 then.2,
+      λ still. then.3 (λ r. still (rose_last (S.faults s.src.now) (S.faults t.src.now) (S.faults u.src.now) first.2 r)) ∙ first.3 (λ r. still (rose_first (S.faults s.src.now) (S.faults t.src.now) (S.faults u.src.now) r then.2)),
+    ) };
+}
