@@ -18,7 +18,9 @@ use Rattle.byte_feed.specs.Front.{Window, spelling}
 use Rattle.byte_feed.specs.Feed.{FeedState, window, so_far}
 use Rattle.byte_feed.specs.declared.damage.DbFault.{DbFault}
 use Rattle.byte_feed.specs.declared.damage.DbFault.TheVariants as faults
-use Rattle.byte_feed.specs.Paths.{Ending, Rest, rest_of, after_item, no_items, Moved, MovedKnown, Broke, EndsKnown, is_read_fault}
+use Rattle.byte_feed.specs.Endings.{Ending, is_read_fault}
+use Rattle.byte_feed.specs.Paths.{Rest, rest_of, after_item, no_items}
+use Rattle.byte_feed.specs.Calls.{Moved, MovedKnown, Broke, EndsKnown}
 use Rattle.byte_feed.proofs.Rests.{moved_then, moved_same, ends_after}
 use Rattle.mlocate_db.specs.Items.{Head, Item, HeadItem, EntryItem, EndItem, spell, mlocate}
 use Rattle.mlocate_db.specs.Items.{in_directory}

@@ -12,7 +12,9 @@ use Rattle.byte_feed.specs.declared.damage.DbFault.{DbFault}
 use Rattle.byte_feed.specs.declared.damage.DbFault.TheVariants as faults
 use Rattle.byte_feed.specs.Front.{Window, front, limit, readable, items_of}
 use Rattle.byte_feed.specs.Feed.{FeedState, window, empty_at}
-use Rattle.byte_feed.specs.Paths.{Ending, Rest, rest_of, after_item, no_items, Broke, EndsKnown, is_read_fault}
+use Rattle.byte_feed.specs.Endings.{Ending, is_read_fault}
+use Rattle.byte_feed.specs.Paths.{Rest, rest_of, after_item, no_items}
+use Rattle.byte_feed.specs.Calls.{Broke, EndsKnown}
 use Rattle.mlocate_db.specs.Items.{Item, Header, HeaderItem, HeadItem, EntryItem, EndItem, AtStart, mlocate}
 use Rattle.mlocate_db.specs.declared.db_reader.Stage.TheVariants as stages
 use Rattle.mlocate_db.specs.Reader.{ReaderState, fresh_on, is_live, rest_left, Starts, StartKnown}

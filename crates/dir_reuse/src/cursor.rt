@@ -2,7 +2,7 @@
 ghost use Rattle.std.specs.Prelude.{◌≡◌, ◌≤◌, ◌&&◌, [], true, false, not, IsTrue, Ok, Err, OnOk, length};
 ghost use Rattle.loc_outside.specs.Causes.{Rose};
 ghost use Rattle.path_order.specs.NameList.{Listed};
-ghost use Rattle.byte_feed.specs.Paths.{is_read_fault as is_fault_of_the_source};
+ghost use Rattle.byte_feed.specs.Endings.{is_read_fault as is_fault_of_the_source};
 ghost use Rattle.tree_scan.specs.Records.{Fitting, bears, is_zero as is_zero_moment};
 ghost use Rattle.dir_reuse.specs.Coming.{head_of};
 ghost use Rattle.dir_reuse.specs.Usable.{record_of};

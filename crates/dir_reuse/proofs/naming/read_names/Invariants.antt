@@ -1,6 +1,6 @@
 use Rattle.std.proofs.Common.{◌≡◌, ◌^◌, ◌-◌, ◌≤◌, ◌++◌, IsTrue, true, All}
 use Rattle.byte_feed.specs.Feed.{Draws}
-use Rattle.byte_feed.specs.Paths.{MovedKnown}
+use Rattle.byte_feed.specs.Calls.{MovedKnown}
 use Rattle.mlocate_db.specs.declared.db_reader.Stage.TheVariants as stages
 use Rattle.mlocate_db.specs.Reader.{dir_of, rest_left}
 use Rattle.tree_scan.specs.Admitted.{fits_in}
