@@ -1,8 +1,8 @@
 use Rattle.std.proofs.Common.{◌++◌, ◌∷◌, [], Bool, Ok, Err, refl, ap, ◌∙◌, arith}
 use Rattle.byte_feed.proofs.Draws.{draws_none, draws_then}
 use Rattle.byte_feed.proofs.Rests.{moved_none, moved_then, moved_same}
-use Rattle.locate_engine.proofs.Counted.{one_more, files_more, bytes_more, counts_end, no_database, not_missing, damaged_there, too_large_there, by_reading, fits_after}
-use Rattle.locate_engine.proofs.Opened.{all_read}
+use Rattle.locate_engine.proofs.Counted.{one_more, files_more, bytes_more, counts_end, no_database, damaged_there, fits_after}
+use Rattle.locate_engine.proofs.Endings.{all_read, by_reading, limit_read, not_missing}
 use Rattle.locate_engine.proofs.counting.count_paths.Goals as goal
 
 pub paths-init : goal.paths-init
@@ -31,7 +31,7 @@ pub returns-in-Err-clause-damaged : goal.returns-in-Err-clause-damaged
 returns-in-Err-clause-damaged g c = rw (c.stats_at.ensures, c.outcome_at.ensures) (damaged_there (Err c.in-Err.fault) _ _ _ _ _ c.in-Err.ensures.stops)
 
 pub returns-in-Err-clause-too_large : goal.returns-in-Err-clause-too_large
-returns-in-Err-clause-too_large g c = rw c.outcome_at.ensures (too_large_there (Err c.in-Err.fault) _ _ c.in-Err.ensures.stops)
+returns-in-Err-clause-too_large g c = rw c.outcome_at.ensures (limit_read (Err c.in-Err.fault) _ _ c.in-Err.ensures.stops)
 
 pub returns-in-Err-clause-reading : goal.returns-in-Err-clause-reading
 returns-in-Err-clause-reading g c = rw c.outcome_at.ensures (by_reading (Err c.in-Err.fault))
