@@ -8,14 +8,16 @@ use Rattle.path_order.specs.Path.{joined}
 use Rattle.loc_outside.specs.Causes.{raised}
 use Rattle.loc_outside.specs.Files.{Files}
 use Rattle.loc_outside.specs.Outside.{OpensAs}
-use Rattle.loc_outside.specs.declared.traits.Opened.{Opened}
-use Rattle.loc_outside.specs.declared.traits.Opened.TheVariants.{Found, Missing}
+use Rattle.loc_outside.specs.declared.traits.bytes.Opened.{Opened}
+use Rattle.loc_outside.specs.declared.traits.bytes.Opened.TheVariants.{Found, Missing}
 use Rattle.byte_feed.specs.declared.damage.DbFault.TheVariants as faults
 use Rattle.byte_feed.specs.Front.{Window, limit, items_of, items_within}
 use Rattle.byte_feed.specs.Feed.{FeedState, empty_at, window, so_far, reach, Draws}
-use Rattle.byte_feed.specs.Paths.{Ending, PathAt, ToCome, Moved, MovedKnown, EndsKnown, StopsAt, after_paths, no_paths, rest_of}
+use Rattle.byte_feed.specs.Endings.{Ending, StopsAt}
+use Rattle.byte_feed.specs.Paths.{PathAt, ToCome, after_paths, no_paths, rest_of}
+use Rattle.byte_feed.specs.Calls.{Moved, MovedKnown, EndsKnown}
 use Rattle.byte_feed.proofs.Rests.{moved_none}
-use Rattle.any_db.specs.Formats.{format_of, rest_in, contents_of_part}
+use Rattle.any_db.specs.Formats.{format_of, to_come_in, contents_of_part}
 use Rattle.any_db.specs.Reader.{fresh, paths_left, feed_of}
 use Rattle.any_db.specs.declared.any_reader.AnyReader.{AnyReader}
 use Rattle.locate_engine.specs.declared.outcome.Outcome.{Outcome}
@@ -176,7 +178,7 @@ damaged_none (Err faults.TooLarge) f stops = tt
 -- ---- of a whole file
 
 -- What was counted from the first byte on was counted of the file.
-counts_file : (f : FeedState) (l l' : Option (List ℕ)) (g g' : ℕ) (stats : Stats) (result : Outcome) → CountsKnown rest_in (empty_at 0) l l' stats result → Draws (empty_at 0) f g g' l l' → reach f ≤ 2 ^ 40
+counts_file : (f : FeedState) (l l' : Option (List ℕ)) (g g' : ℕ) (stats : Stats) (result : Outcome) → CountsKnown to_come_in (empty_at 0) l l' stats result → Draws (empty_at 0) f g g' l l' → reach f ≤ 2 ^ 40
     → IfSome l (λ file. (result ≡ outcomes.ReadFault → g ≤ 2 ^ 63) → Counts (seen_in file (g' - g) result) stats result)
 counts_file f None l' g g' stats result done drawn far = tt
 counts_file f (Some file) None g g' stats result done drawn far = absurd done
@@ -213,14 +215,14 @@ whole_drawn r e f l l' g g' drawn far = drawn_whole f g g' l l' (subst (λ (q : 
 
 -- ---- a file that could not be opened
 
-no_bytes : (more : Bool) → stats_of (rest_in (record { bytes = []; more = more })) ≡ no_stats
-unfolding rest_in format_of rest_of items_of items_within
+no_bytes : (more : Bool) → stats_of (to_come_in (record { bytes = []; more = more })) ≡ no_stats
+unfolding to_come_in format_of rest_of items_of items_within
 no_bytes more = refl
 
 nothing_given : (n : ℕ) (file : List ℕ) → n ≡ 0 → stats_of (contents_of_part n file) ≡ no_stats
 nothing_given n file none =
     let all : record { bytes = take limit (take n file); more = true } ≡ record { bytes = []; more = true } = ap (λ (bytes : List ℕ). record { bytes = bytes; more = true }) (ap (λ (k : ℕ). take limit (take k file)) none ∙ take-nil limit) in
-    ap (λ (w : Window). stats_of (rest_in w)) all ∙ no_bytes true
+    ap (λ (w : Window). stats_of (to_come_in w)) all ∙ no_bytes true
 
 counts_unopened : (g g' : ℕ) → g' ≡ g → (file : List ℕ) → CountsFile file g g' no_stats outcomes.ReadFault
 counts_unopened g g' same file = record {

@@ -4,8 +4,9 @@ use Rattle.std.specs.Prelude.{nat_le}
 use Rattle.loc_outside.specs.Causes.{Rose, raised}
 use Rattle.byte_feed.specs.Front.{Window, limit, readable}
 use Rattle.byte_feed.specs.Feed.{FeedState, empty_at, window, so_far, reach, Draws}
-use Rattle.byte_feed.specs.Paths.{ToCome, Moved}
-use Rattle.any_db.specs.Formats.{rest_in, contents, contents_of_part}
+use Rattle.byte_feed.specs.Paths.{ToCome}
+use Rattle.byte_feed.specs.Calls.{Moved}
+use Rattle.any_db.specs.Formats.{to_come_in, contents, contents_of_part}
 use Rattle.any_db.specs.Reader.{fresh, feed_of}
 use Rattle.any_db.specs.declared.any_reader.AnyReader.{AnyReader}
 use Rattle.locate_engine.specs.Files.{ReadsWithin}
@@ -81,12 +82,12 @@ once_opened r new f g g' l l' result drawn whole large = once_drawn f g g' l l' 
 
 -- what is seen of a file that is read from its first byte on, as far as it was drawn
 seen_file : (b : Bool) (file left : List ℕ) (n k : ℕ) → n ≤ length file → left ≡ drop n file → (b ≡ true → k ≡ n)
-    → rest_in (cond b (so_far (empty_at 0) file (length left)) (window (empty_at 0) file)) ≡ cond b (contents_of_part k file) (contents file)
-seen_file true file left n k fits rest same = ap rest_in (part_window file left n fits rest) ∙ ap (λ (c : ℕ). contents_of_part c file) (sym (same refl))
-seen_file false file left n k fits rest same = ap rest_in (whole_window file)
+    → to_come_in (cond b (so_far (empty_at 0) file (length left)) (window (empty_at 0) file)) ≡ cond b (contents_of_part k file) (contents file)
+seen_file true file left n k fits rest same = ap to_come_in (part_window file left n fits rest) ∙ ap (λ (c : ℕ). contents_of_part c file) (sym (same refl))
+seen_file false file left n k fits rest same = ap to_come_in (whole_window file)
 
 pub seen_by : (f : FeedState) (g g' : ℕ) (file left : List ℕ) (result : Outcome) → Draws (empty_at 0) f g g' (Some file) (Some left) → reach f ≤ 2 ^ 40 → (result ≡ outcomes.ReadFault → g ≤ 2 ^ 63)
-    → seen_of rest_in (empty_at 0) file (length left) result ≡ seen_in file (g' - g) result
+    → seen_of to_come_in (empty_at 0) file (length left) result ≡ seen_in file (g' - g) result
 seen_by f g g' file left result drawn far small =
     let n : ℕ = reach f - reach (empty_at 0) in
     let fits : n ≤ 2 ^ 40 = omega (arith, far) in

@@ -3,7 +3,7 @@ use Rattle.std.proofs.Common.{◌≡◌, ℕ, ◌^◌, Bool, true, false, Ok, Er
 use Rattle.byte_feed.specs.declared.damage.DbFault.{DbFault}
 use Rattle.byte_feed.specs.declared.damage.DbFault.TheVariants as faults
 use Rattle.byte_feed.specs.Feed.{FeedState, reach}
-use Rattle.byte_feed.specs.Paths.{Ending, StopsAt}
+use Rattle.byte_feed.specs.Endings.{Ending, StopsAt}
 use Rattle.locate_engine.specs.Searched.{outcome_of, is_read_fault}
 use Rattle.locate_engine.specs.Statistics.{ends_reading}
 use Rattle.locate_engine.specs.declared.outcome.Outcome.{Outcome}

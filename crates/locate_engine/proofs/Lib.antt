@@ -6,7 +6,7 @@ pub mod Gone
 pub mod Named
 pub mod Occurs
 pub mod Opened
-pub mod Parts
+pub mod LineParts
 pub mod Patterns
 pub mod Told
 pub mod Whole

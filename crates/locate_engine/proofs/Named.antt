@@ -5,8 +5,8 @@ use Rattle.std.specs.FinMap as map
 use Rattle.loc_outside.specs.Causes.{Rose}
 use Rattle.loc_outside.specs.Files.{Files}
 use Rattle.loc_outside.specs.Outside.{OpensAs}
-use Rattle.loc_outside.specs.declared.traits.Opened.{Opened}
-use Rattle.loc_outside.specs.declared.traits.Opened.TheVariants.{Found, Missing}
+use Rattle.loc_outside.specs.declared.traits.bytes.Opened.{Opened}
+use Rattle.loc_outside.specs.declared.traits.bytes.Opened.TheVariants.{Found, Missing}
 use Rattle.any_db.specs.Formats.{contents}
 use Rattle.locate_engine.specs.Files.{FindsNone, ReadsWithin, SearchesFile, SearchesFound, SearchesNamed, SearchesPart}
 use Rattle.locate_engine.specs.Searched.{EndsWithin}

@@ -4,8 +4,8 @@ use Rattle.std.specs.Prelude.{IsSome}
 use Rattle.std.specs.FinMap as map
 use Rattle.loc_outside.specs.Files.{Files}
 use Rattle.loc_outside.specs.Outside.{OpensAs}
-use Rattle.loc_outside.specs.declared.traits.Opened.{Opened}
-use Rattle.loc_outside.specs.declared.traits.Opened.TheVariants.{Found, Missing}
+use Rattle.loc_outside.specs.declared.traits.bytes.Opened.{Opened}
+use Rattle.loc_outside.specs.declared.traits.bytes.Opened.TheVariants.{Found, Missing}
 
 pub if_some : {T : Type 0} (o : Option T) (P : T → Type 0) → ((x : T) → P x) → IfSome o P
 if_some None P all = tt

@@ -4,7 +4,8 @@ use Rattle.std.specs.List.{sum_by}
 use Rattle.std.specs.Io.KnownBytes.{Appends}
 use Rattle.loc_outside.specs.Causes.{raised}
 use Rattle.byte_feed.specs.declared.damage.DbFault.TheVariants as faults
-use Rattle.byte_feed.specs.Paths.{Ending, PathAt, ToCome}
+use Rattle.byte_feed.specs.Endings.{Ending}
+use Rattle.byte_feed.specs.Paths.{PathAt, ToCome}
 use Rattle.any_db.specs.Formats.{contents, contents_of_part}
 use Rattle.locate_engine.specs.Passing.{Rule, passes, line_of, passing, lines, up_to, due}
 use Rattle.locate_engine.specs.declared.outcome.Outcome.{Outcome}
