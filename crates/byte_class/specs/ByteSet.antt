@@ -24,4 +24,4 @@ in_set fold complement test byte = if complement then not (folded fold test byte
 
 -- a test holds of this byte and of no other
 abbrev pub IsAlone : (ℕ → Bool) → ℕ → Type 0
-IsAlone test byte = (other : ℕ) → other < 256 → test other ≡ (other == byte)
+IsAlone test byte = (byte < 256) × ((other : ℕ) → other < 256 → test other ≡ (other == byte))

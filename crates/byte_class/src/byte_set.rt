@@ -51,7 +51,7 @@ impl ByteSet {
 
     /// The byte of a set that has exactly one.
     pub fn single(&self) -> Option<u8>
-        ensures { MatchOption result ((byte : ℕ) → byte < 256 → IsAlone (has self.now) byte → ⊥) (λ byte. IsAlone (has self.now) byte) }
+        ensures { MatchOption result ((byte : ℕ) → IsAlone (has self.now) byte → ⊥) (λ byte. IsAlone (has self.now) byte) }
     {
         for n in 0..256usize {
             let byte = n as u8;
