@@ -27,7 +27,7 @@ returns-in-Ok-clause-counted g c =
     counts_before _ _ _ _ _ _ _ _ _ c.in-Ok.ensures.ok (drawn_fewer _ _ _ _ _ _ c.count_paths.ensures.drawn) c.count_paths.ensures.counted
 
 pub returns-in-Ok-clause-drawn : goal.returns-in-Ok-clause-drawn
-returns-in-Ok-clause-drawn g c = draws_then _ _ _ _ _ _ _ _ _ c.in-Ok.ensures.drawn c.count_paths.ensures.drawn
+returns-in-Ok-clause-drawn g c = draws_then _ _ _ _ _ _ _ _ _ c.in-Ok.ensures.ahead.drawn c.count_paths.ensures.drawn
 
 pub returns-in-Err-clause-whole : goal.returns-in-Err-clause-whole
 returns-in-Err-clause-whole g c = rw c.outcome_at.ensures (all_read (Err c.in-Err.fault) _ _ c.in-Err.ensures.stops)

@@ -45,19 +45,19 @@ paths-init g c = record {
 }
 
 pub returns-in-Err-clause-drawn : goal.returns-in-Err-clause-drawn
-returns-in-Err-clause-drawn g c = draws_then _ _ _ _ _ _ _ _ _ c.paths.invariant.drawn c.in-Err.ensures.drawn
+returns-in-Err-clause-drawn g c = draws_then _ _ _ _ _ _ _ _ _ c.paths.invariant.drawn c.in-Err.ensures.ahead.drawn
 
 pub returns-then-not-more-clause-drawn : goal.returns-then-not-more-clause-drawn
-returns-then-not-more-clause-drawn g c = draws_then _ _ _ _ _ _ _ _ _ c.paths.invariant.drawn c.in-Ok.ensures.drawn
+returns-then-not-more-clause-drawn g c = draws_then _ _ _ _ _ _ _ _ _ c.paths.invariant.drawn c.in-Ok.ensures.ahead.drawn
 
 pub returns-in-LimitReached-clause-drawn : goal.returns-in-LimitReached-clause-drawn
-returns-in-LimitReached-clause-drawn g c = draws_then _ _ _ _ _ _ _ _ _ c.paths.invariant.drawn c.in-Ok.ensures.drawn
+returns-in-LimitReached-clause-drawn g c = draws_then _ _ _ _ _ _ _ _ _ c.paths.invariant.drawn c.in-Ok.ensures.ahead.drawn
 
 pub returns-in-GateFault-clause-drawn : goal.returns-in-GateFault-clause-drawn
-returns-in-GateFault-clause-drawn g c = draws_then _ _ _ _ _ _ _ _ _ c.paths.invariant.drawn c.in-Ok.ensures.drawn
+returns-in-GateFault-clause-drawn g c = draws_then _ _ _ _ _ _ _ _ _ c.paths.invariant.drawn c.in-Ok.ensures.ahead.drawn
 
 pub returns-in-WriteFault-clause-drawn : goal.returns-in-WriteFault-clause-drawn
-returns-in-WriteFault-clause-drawn g c = draws_then _ _ _ _ _ _ _ _ _ c.paths.invariant.drawn c.in-Ok.ensures.drawn
+returns-in-WriteFault-clause-drawn g c = draws_then _ _ _ _ _ _ _ _ _ c.paths.invariant.drawn c.in-Ok.ensures.ahead.drawn
 
 pub returns-in-Err-clause-searched : goal.returns-in-Err-clause-searched
 returns-in-Err-clause-searched g c =
@@ -91,7 +91,7 @@ returns-in-LimitReached-clause-searched g c =
     let new : Stand = stand (g.K.Sink.taken c.take_path.new.out) c.take_path.new.tally.matched (g.G.Gate.asks c.take_path.new.gate) in
     let took = takes_by gated (g.P.PathStream.is_gated c.next_path.new.self) (g.G.Gate.tests c.args.gate.now) (g.G.Gate.tests c.paths.gate) c.args.query.now c.paths.block c.take_path.new.block p old new steps.LimitReached
     (c.in-Ok.ensures.gate ∙ c.paths.invariant.gated) c.paths.invariant.tests c.in-LimitReached.ensures.takes in
-    let near : reach (g.P.PathStream.feed c.next_path.new.self) ≤ p.place + 20480 = omega (arith, c.in-Ok.ensures.near, c.in-Ok.ensures.held, (c.in-Ok.ensures.at c.if-not-more.false).0) in
+    let near : reach (g.P.PathStream.feed c.next_path.new.self) ≤ p.place + 20480 = omega (arith, c.in-Ok.ensures.place.near, c.in-Ok.ensures.ahead.held, ((c.in-Ok.ensures.found c.if-not-more.false).at).0) in
     λ one. told_if _ _ _ (λ told tells. searches_limit (rule_of wanted c.args.query.now gated told) bound _ _ _ _ before.0 p c.paths.block _ old _ _ _ cost answer _ _ c.take_path.new.block new moved one (before.3 told tells one) (took wanted told tells) (c.in-LimitReached.ensures.limit refl) _ near)
 
 pub returns-in-GateFault-clause-searched : goal.returns-in-GateFault-clause-searched
@@ -163,7 +163,7 @@ paths-preserved-in-On g c =
       below = c.in-On.ensures.below (λ e. absurd cc);
       only_counted = λ only. c.in-On.ensures.only_counted only ∙ c.paths.invariant.only_counted only;
       steps = omega (arith, c.paths.invariant.steps, c.wants.ensures.later);
-      drawn = draws_then _ _ _ _ _ _ _ _ _ c.paths.invariant.drawn c.in-Ok.ensures.drawn;
+      drawn = draws_then _ _ _ _ _ _ _ _ _ c.paths.invariant.drawn c.in-Ok.ensures.ahead.drawn;
       src = g.met.S.Source.keeps_on _ _ _ c.paths.invariant.src c.in-Ok.ensures.kept;
       gate = g.met.G.Gate.keeps_on _ _ _ c.paths.invariant.gate c.in-On.ensures.gate_kept;
       sink = g.met.K.Sink.keeps_on _ _ _ c.paths.invariant.sink c.in-On.ensures.out_kept;
@@ -204,7 +204,7 @@ paths-preserved g c =
       below = c.paths.invariant.below;
       only_counted = c.paths.invariant.only_counted;
       steps = omega (arith, c.paths.invariant.steps, c.wants.ensures.later);
-      drawn = draws_then _ _ _ _ _ _ _ _ _ c.paths.invariant.drawn c.in-Ok.ensures.drawn;
+      drawn = draws_then _ _ _ _ _ _ _ _ _ c.paths.invariant.drawn c.in-Ok.ensures.ahead.drawn;
       src = g.met.S.Source.keeps_on _ _ _ c.paths.invariant.src c.in-Ok.ensures.kept;
       gate = c.paths.invariant.gate;
       sink = c.paths.invariant.sink;
@@ -277,9 +277,9 @@ pub returns-in-Err-clause-moves : goal.returns-in-Err-clause-moves
 returns-in-Err-clause-moves g c = rw c.outcome_at.ensures (record {
   files = refl;
   tests = c.paths.invariant.tests;
-  reads = reads_drawn _ _ _ _ _ _ _ _ _ (returns-in-Err-clause-drawn g c) c.in-Err.ensures.reach (omega (arith, c.paths.invariant.read, c.in-Err.ensures.later)) (λ e. omega (arith, c.paths.invariant.read, c.in-Err.ensures.fault (ap Err (failed_there c.in-Err.fault e))));
+  reads = reads_drawn _ _ _ _ _ _ _ _ _ (returns-in-Err-clause-drawn g c) c.in-Err.ensures.ahead.bound (omega (arith, c.paths.invariant.read, c.in-Err.ensures.later)) (λ e. omega (arith, c.paths.invariant.read, c.in-Err.ensures.fault (ap Err (failed_there c.in-Err.fault e))));
   matched = c.paths.invariant.rises;
-  matched_within = omega (arith, c.paths.invariant.within, c.in-Err.ensures.forth, c.in-Err.ensures.bound);
+  matched_within = omega (arith, c.paths.invariant.within, c.in-Err.ensures.place.forth, c.in-Err.ensures.place.bound);
   steps = c.paths.invariant.steps;
   asks = c.paths.invariant.asked;
   gate = c.paths.invariant.answered;
@@ -292,9 +292,9 @@ pub returns-then-not-more-clause-moves : goal.returns-then-not-more-clause-moves
 returns-then-not-more-clause-moves g c = record {
   files = refl;
   tests = c.paths.invariant.tests;
-  reads = reads_drawn _ _ _ _ _ _ _ _ _ (returns-then-not-more-clause-drawn g c) c.in-Ok.ensures.reach (omega (arith, c.paths.invariant.read, c.in-Ok.ensures.later)) (λ e. absurd cc);
+  reads = reads_drawn _ _ _ _ _ _ _ _ _ (returns-then-not-more-clause-drawn g c) c.in-Ok.ensures.ahead.bound (omega (arith, c.paths.invariant.read, c.in-Ok.ensures.later)) (λ e. absurd cc);
   matched = c.paths.invariant.rises;
-  matched_within = omega (arith, c.paths.invariant.within, c.in-Ok.ensures.forth, c.in-Ok.ensures.bound);
+  matched_within = omega (arith, c.paths.invariant.within, c.in-Ok.ensures.place.forth, c.in-Ok.ensures.place.bound);
   steps = c.paths.invariant.steps;
   asks = c.paths.invariant.asked;
   gate = c.paths.invariant.answered;
@@ -307,9 +307,9 @@ pub returns-in-LimitReached-clause-moves : goal.returns-in-LimitReached-clause-m
 returns-in-LimitReached-clause-moves g c = record {
   files = refl;
   tests = g.met.G.Gate.keeps_tests _ _ c.in-LimitReached.ensures.gate_kept ∙ c.paths.invariant.tests;
-  reads = reads_drawn _ _ _ _ _ _ _ _ _ (returns-in-LimitReached-clause-drawn g c) c.in-Ok.ensures.reach (omega (arith, c.paths.invariant.read, c.in-Ok.ensures.later)) (λ e. absurd cc);
+  reads = reads_drawn _ _ _ _ _ _ _ _ _ (returns-in-LimitReached-clause-drawn g c) c.in-Ok.ensures.ahead.bound (omega (arith, c.paths.invariant.read, c.in-Ok.ensures.later)) (λ e. absurd cc);
   matched = omega (arith, c.paths.invariant.rises, c.in-LimitReached.ensures.rises);
-  matched_within = omega (arith, c.paths.invariant.within, c.in-LimitReached.ensures.within, c.in-Ok.ensures.grows c.if-not-more.false, c.in-Ok.ensures.bound);
+  matched_within = omega (arith, c.paths.invariant.within, c.in-LimitReached.ensures.within, c.in-Ok.ensures.grows c.if-not-more.false, c.in-Ok.ensures.place.bound);
   steps = omega (arith, c.paths.invariant.steps, c.wants.ensures.later);
   asks = omega (arith, c.paths.invariant.asked, c.in-LimitReached.ensures.asks_rise);
   gate = omega (arith, c.paths.invariant.answered, c.in-LimitReached.ensures.gate_later);
@@ -322,9 +322,9 @@ pub returns-in-GateFault-clause-moves : goal.returns-in-GateFault-clause-moves
 returns-in-GateFault-clause-moves g c = record {
   files = refl;
   tests = g.met.G.Gate.keeps_tests _ _ c.in-GateFault.ensures.gate_kept ∙ c.paths.invariant.tests;
-  reads = reads_drawn _ _ _ _ _ _ _ _ _ (returns-in-GateFault-clause-drawn g c) c.in-Ok.ensures.reach (omega (arith, c.paths.invariant.read, c.in-Ok.ensures.later)) (λ e. absurd cc);
+  reads = reads_drawn _ _ _ _ _ _ _ _ _ (returns-in-GateFault-clause-drawn g c) c.in-Ok.ensures.ahead.bound (omega (arith, c.paths.invariant.read, c.in-Ok.ensures.later)) (λ e. absurd cc);
   matched = omega (arith, c.paths.invariant.rises, c.in-GateFault.ensures.rises);
-  matched_within = omega (arith, c.paths.invariant.within, c.in-GateFault.ensures.within, c.in-Ok.ensures.grows c.if-not-more.false, c.in-Ok.ensures.bound);
+  matched_within = omega (arith, c.paths.invariant.within, c.in-GateFault.ensures.within, c.in-Ok.ensures.grows c.if-not-more.false, c.in-Ok.ensures.place.bound);
   steps = omega (arith, c.paths.invariant.steps, c.wants.ensures.later);
   asks = omega (arith, c.paths.invariant.asked, c.in-GateFault.ensures.asks_rise);
   gate = omega (arith, c.paths.invariant.answered, c.in-GateFault.ensures.gate_later);
@@ -337,9 +337,9 @@ pub returns-in-WriteFault-clause-moves : goal.returns-in-WriteFault-clause-moves
 returns-in-WriteFault-clause-moves g c = record {
   files = refl;
   tests = g.met.G.Gate.keeps_tests _ _ c.in-WriteFault.ensures.gate_kept ∙ c.paths.invariant.tests;
-  reads = reads_drawn _ _ _ _ _ _ _ _ _ (returns-in-WriteFault-clause-drawn g c) c.in-Ok.ensures.reach (omega (arith, c.paths.invariant.read, c.in-Ok.ensures.later)) (λ e. absurd cc);
+  reads = reads_drawn _ _ _ _ _ _ _ _ _ (returns-in-WriteFault-clause-drawn g c) c.in-Ok.ensures.ahead.bound (omega (arith, c.paths.invariant.read, c.in-Ok.ensures.later)) (λ e. absurd cc);
   matched = omega (arith, c.paths.invariant.rises, c.in-WriteFault.ensures.rises);
-  matched_within = omega (arith, c.paths.invariant.within, c.in-WriteFault.ensures.within, c.in-Ok.ensures.grows c.if-not-more.false, c.in-Ok.ensures.bound);
+  matched_within = omega (arith, c.paths.invariant.within, c.in-WriteFault.ensures.within, c.in-Ok.ensures.grows c.if-not-more.false, c.in-Ok.ensures.place.bound);
   steps = omega (arith, c.paths.invariant.steps, c.wants.ensures.later);
   asks = omega (arith, c.paths.invariant.asked, c.in-WriteFault.ensures.asks_rise);
   gate = omega (arith, c.paths.invariant.answered, c.in-WriteFault.ensures.gate_later);
@@ -366,7 +366,7 @@ returns-in-WriteFault-clause-limit g c = record { reached = λ e. absurd cc; und
 pub returns-in-Err-clause-stops : goal.returns-in-Err-clause-stops
 returns-in-Err-clause-stops g c = rw c.outcome_at.ensures (record {
   there = not_missing (Err c.in-Err.fault);
-  below = c.in-Err.ensures.reach;
+  below = c.in-Err.ensures.ahead.bound;
   whole = all_read (Err c.in-Err.fault) _ _ c.in-Err.ensures.stops;
   too_large = limit_read (Err c.in-Err.fault) _ _ c.in-Err.ensures.stops;
   spent = λ _. c.in-Err.ensures.live;
@@ -375,17 +375,17 @@ returns-in-Err-clause-stops g c = rw c.outcome_at.ensures (record {
 pub returns-then-not-more-clause-stops : goal.returns-then-not-more-clause-stops
 returns-then-not-more-clause-stops g c = record {
   there = λ e. absurd cc;
-  below = c.in-Ok.ensures.reach;
+  below = c.in-Ok.ensures.ahead.bound;
   whole = λ _. (c.in-Ok.ensures.whole (ap (λ (b : Bool). Ok b) c.if-not-more.true)).1;
   too_large = λ e. absurd cc;
   spent = λ _. c.in-Ok.ensures.live ∙ c.if-not-more.true;
 }
 
 pub returns-in-LimitReached-clause-stops : goal.returns-in-LimitReached-clause-stops
-returns-in-LimitReached-clause-stops g c = record { there = λ e. absurd cc; below = c.in-Ok.ensures.reach; whole = λ e. absurd cc; too_large = λ e. absurd cc; spent = λ e. absurd cc }
+returns-in-LimitReached-clause-stops g c = record { there = λ e. absurd cc; below = c.in-Ok.ensures.ahead.bound; whole = λ e. absurd cc; too_large = λ e. absurd cc; spent = λ e. absurd cc }
 
 pub returns-in-GateFault-clause-stops : goal.returns-in-GateFault-clause-stops
-returns-in-GateFault-clause-stops g c = record { there = λ e. absurd cc; below = c.in-Ok.ensures.reach; whole = λ e. absurd cc; too_large = λ e. absurd cc; spent = λ e. absurd cc }
+returns-in-GateFault-clause-stops g c = record { there = λ e. absurd cc; below = c.in-Ok.ensures.ahead.bound; whole = λ e. absurd cc; too_large = λ e. absurd cc; spent = λ e. absurd cc }
 
 pub returns-in-WriteFault-clause-stops : goal.returns-in-WriteFault-clause-stops
-returns-in-WriteFault-clause-stops g c = record { there = λ e. absurd cc; below = c.in-Ok.ensures.reach; whole = λ e. absurd cc; too_large = λ e. absurd cc; spent = λ e. absurd cc }
+returns-in-WriteFault-clause-stops g c = record { there = λ e. absurd cc; below = c.in-Ok.ensures.ahead.bound; whole = λ e. absurd cc; too_large = λ e. absurd cc; spent = λ e. absurd cc }
