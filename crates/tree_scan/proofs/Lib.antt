@@ -3,11 +3,11 @@ pub mod Lists
 pub mod Walk
 pub mod Sorted
 pub mod Members
-pub mod Parts
+pub mod PathNames
 pub mod Same
 pub mod Texts
-pub mod Pieces
-pub mod Told
+pub mod WrittenNames
+pub mod TreeAnswers
 pub mod Sorting
 pub mod PendingPaths
 pub mod Follows

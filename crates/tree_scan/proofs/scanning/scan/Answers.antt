@@ -11,9 +11,9 @@ use Rattle.tree_scan.specs.Steps.{weight}
 use Rattle.tree_scan.specs.Stops.{WroteBlocks, taken}
 use Rattle.tree_scan.specs.Walks.{AddsChildren, standing}
 use Rattle.tree_scan.specs.declared.rules.ScanFault.TheVariants.{RootMissing, TreeFault, WriteFault, TooManyNames, TooManyDirectories, OutOfMemory}
-use Rattle.tree_scan.proofs.Pieces.{when_err}
+use Rattle.tree_scan.proofs.WrittenNames.{when_err}
 use Rattle.tree_scan.proofs.Texts.{normal_fits}
-use Rattle.tree_scan.proofs.Told.{stat_found, stat_none, when_true, when_false, whole_by, not_none, some_is}
+use Rattle.tree_scan.proofs.TreeAnswers.{stat_found, stat_none, when_true, when_false, whole_by, not_none, some_is}
 use Rattle.tree_scan.proofs.Visits.{stat_share}
 use Rattle.tree_scan.proofs.Asking.{Keeps, Low, fewer_known, fewer_left, fewer_same, honest_known, keeps_begin, keeps_step, low_step, mark_before, mark_now, order_step, some_now}
 use Rattle.tree_scan.proofs.Lists.{Rises}
