@@ -130,7 +130,7 @@ impl States {
 
     /// The state at a place.
     #[inline(always)]
-    fn at(&self, place: usize) -> State
+    pub(crate) fn at(&self, place: usize) -> State
         requires { place < length self.now }
         ensures { slice_get self.now place ≡ Some (item_of result) }
     {
