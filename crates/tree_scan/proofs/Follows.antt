@@ -16,7 +16,7 @@ use Rattle.tree_scan.specs.Blocks.{block, block_pieces, block_text, device_in, e
 use Rattle.tree_scan.specs.Admitted.{admitted}
 use Rattle.tree_scan.specs.Plan.{Plan}
 use Rattle.tree_scan.specs.Reach.{reached}
-use Rattle.tree_scan.specs.Walks.{LinesFollow}
+use Rattle.tree_scan.specs.Stops.{LinesFollow, taken}
 use Rattle.tree_scan.proofs.WrittenNames.{Known, some_is, not_none}
 
 abbrev pub Pieces : Type 0
@@ -29,15 +29,15 @@ abbrev pub echoed_of : Pieces → List ℕ
 echoed_of ps = flat_map (λ p. p.1) ps
 
 -- nothing was written
-pub follows_none : (ps : Pieces) (u e : Known) → LinesFollow ps u u e e
+pub follows_none : (ps : Pieces) (u e : Known) → LinesFollow ps (taken u e) (taken u e)
 follows_none ps u e = record { count = 0; within = omega arith; more = []; written = Appends-nil u; lined = part_none e [] }
 
 -- a first part of a text, and no line
-pub follows_part : (ps : Pieces) (u v e : Known) (text : List ℕ) → AppendsPart u v text → LinesFollow ps u v e e
+pub follows_part : (ps : Pieces) (u v e : Known) (text : List ℕ) → AppendsPart u v text → LinesFollow ps (taken u e) (taken v e)
 follows_part ps u v e text part = record { count = 0; within = omega arith; more = take part.0 text; written = part.2; lined = part_none e [] }
 
 -- a piece, and a first part of its line
-pub follows_line : (text echo : List ℕ) (u v e f : Known) → Appends u v text → AppendsPart e f echo → LinesFollow ((text, echo) ∷ []) u v e f
+pub follows_line : (text echo : List ℕ) (u v e f : Known) → Appends u v text → AppendsPart e f echo → LinesFollow ((text, echo) ∷ []) (taken u e) (taken v f)
 follows_line text echo u v e f put lined = record {
   count = 1;
   within = omega arith;
@@ -47,7 +47,7 @@ follows_line text echo u v e f put lined = record {
 }
 
 -- pieces that were written whole, with their lines, before
-pub follows_after : (front ps : Pieces) (u v w e f g : Known) → Appends u v (written_of front) → Appends e f (echoed_of front) → LinesFollow ps v w f g → LinesFollow (front ++ ps) u w e g
+pub follows_after : (front ps : Pieces) (u v w e f g : Known) → Appends u v (written_of front) → Appends e f (echoed_of front) → LinesFollow ps (taken v f) (taken w g) → LinesFollow (front ++ ps) (taken u e) (taken w g)
 follows_after front ps u v w e f g put lined h =
     let first : take (length front + h.count) (front ++ ps) ≡ front ++ take h.count ps = take-append-add front ps h.count in
     let texts : written_of (take (length front + h.count) (front ++ ps)) ++ h.more ≡ written_of front ++ (written_of (take h.count ps) ++ h.more) =
@@ -63,7 +63,7 @@ follows_after front ps u v w e f g put lined h =
     }
 
 -- pieces that are to come after
-pub follows_more : (ps rest : Pieces) (u v e f : Known) → LinesFollow ps u v e f → LinesFollow (ps ++ rest) u v e f
+pub follows_more : (ps rest : Pieces) (u v e f : Known) → LinesFollow ps (taken u e) (taken v f) → LinesFollow (ps ++ rest) (taken u e) (taken v f)
 follows_more ps rest u v e f h =
     let same : take h.count (ps ++ rest) ≡ take h.count ps = take-append-le h.count ps rest h.within in
     record {
@@ -95,24 +95,24 @@ split_map f (y ∷ ys) (suc i) x e = ap (λ (l : List _). f y ∷ l) (split_map 
 
 -- the entry in hand, after those that were written
 pub entries_follow : (verbose : Bool) (path : List ℕ) (u v w e f g : Known) (names : Listed) (at : ℕ) (n : List ℕ) (k : Kind) → slice_get names at ≡ Some (n, k)
-    → Appends u v (flat_map entry_text (take at names)) → Appends e f (lines_of verbose path (take at names)) → LinesFollow (entry_piece verbose path (n, k) ∷ []) v w f g → LinesFollow (map (entry_piece verbose path) names) u w e g
+    → Appends u v (flat_map entry_text (take at names)) → Appends e f (lines_of verbose path (take at names)) → LinesFollow (entry_piece verbose path (n, k) ∷ []) (taken v f) (taken w g) → LinesFollow (map (entry_piece verbose path) names) (taken u e) (taken w g)
 entries_follow verbose path u v w e f g names at n k here put lined h =
     let F = entry_piece verbose path in
-    subst (λ (l : Pieces). LinesFollow l u w e g) (split_map {A = List ℕ × Kind} F names at (n, k) here)
+    subst (λ (l : Pieces). LinesFollow l (taken u e) (taken w g)) (split_map {A = List ℕ × Kind} F names at (n, k) here)
     (follows_after (map F (take at names)) (F (n, k) ∷ map F (drop (suc at) names)) u v w e f g
     (subst (λ (l : List ℕ). Appends u v l) (sym (written_entries verbose path (take at names))) put) (subst (λ (l : List ℕ). Appends e f l) (sym (echoed_entries verbose path (take at names))) lined)
     (follows_more (F (n, k) ∷ []) (map F (drop (suc at) names)) v w f g h))
 
 -- a block that broke off in its entries
-pub block_in_entries : (verbose : Bool) (stamp : Moment) (device : ℕ) (path : List ℕ) (names : Listed) (u v w e f : Known) → Appends u v (head_text stamp device path) → LinesFollow (map (entry_piece verbose path) names) v w e f
-    → LinesFollow (block_pieces verbose stamp device path names) u w e f
+pub block_in_entries : (verbose : Bool) (stamp : Moment) (device : ℕ) (path : List ℕ) (names : Listed) (u v w e f : Known) → Appends u v (head_text stamp device path) → LinesFollow (map (entry_piece verbose path) names) (taken v e) (taken w f)
+    → LinesFollow (block_pieces verbose stamp device path names) (taken u e) (taken w f)
 block_in_entries verbose stamp device path names u v w e f head h =
     follows_after ((head_text stamp device path, []) ∷ []) (map (entry_piece verbose path) names ++ (spell EndItem, []) ∷ []) u v w e e f
     (subst (λ (l : List ℕ). Appends u v l) (sym (append-nil (head_text stamp device path))) head) (Appends-nil e) (follows_more (map (entry_piece verbose path) names) ((spell EndItem, []) ∷ []) v w e f h)
 
 -- one that broke off at its end
 pub block_at_end : (verbose : Bool) (stamp : Moment) (device : ℕ) (path : List ℕ) (names : Listed) (u v w x e f : Known)
-    → Appends u v (head_text stamp device path) → Appends v w (flat_map entry_text names) → Appends e f (lines_of verbose path names) → AppendsPart w x (spell EndItem) → LinesFollow (block_pieces verbose stamp device path names) u x e f
+    → Appends u v (head_text stamp device path) → Appends v w (flat_map entry_text names) → Appends e f (lines_of verbose path names) → AppendsPart w x (spell EndItem) → LinesFollow (block_pieces verbose stamp device path names) (taken u e) (taken x f)
 block_at_end verbose stamp device path names u v w x e f head put lined part =
     follows_after ((head_text stamp device path, []) ∷ map (entry_piece verbose path) names) ((spell EndItem, []) ∷ []) u w x e f f
     (subst (λ (l : List ℕ). Appends u w (head_text stamp device path ++ l)) (sym (written_entries verbose path names)) (Appends-trans u v w _ _ head put))

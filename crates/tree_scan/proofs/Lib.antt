@@ -1,9 +1,5 @@
-pub mod Follows
-pub mod Past
-pub mod PendingPaths
-pub mod Stops
-pub mod Lists
 pub mod Order
+pub mod Lists
 pub mod Walk
 pub mod Sorted
 pub mod Members
@@ -13,6 +9,11 @@ pub mod Texts
 pub mod WrittenNames
 pub mod TreeAnswers
 pub mod Sorting
+pub mod PendingPaths
+pub mod Follows
 pub mod Asking
-pub mod Loop
+pub mod Past
 pub mod Visits
+pub mod Loop
+pub mod Stops
+pub mod Ends

@@ -17,8 +17,11 @@ use Rattle.tree_scan.specs.Plan.{Plan}
 use Rattle.tree_scan.specs.Reach.{is_open, is_tried, tried, reached}
 use Rattle.tree_scan.specs.Records.{Record, Honest, Relied, bears, is_vouched, unvouched}
 use Rattle.tree_scan.specs.Steps.{here, next, child_paths, weight, subtree}
-use Rattle.tree_scan.specs.Walks.{Standing, Passes, Breaks, AddsChildren, LinesFollow, NamesMore, Narrow, StopsAtWide, Whole, WroteOf, opens}
-use Rattle.tree_scan.proofs.Asking.{Keeps, under_itself, same_vouched}
+use Rattle.tree_scan.specs.declared.rules.Limits.{Limits}
+use Rattle.tree_scan.specs.Scans.{WrotePart}
+use Rattle.tree_scan.specs.Stops.{LinesFollow, NamesMore, Narrow, StopsAtWide, Whole, WroteBlocks, shown_of, taken}
+use Rattle.tree_scan.specs.Walks.{AddsChildren, Breaks, Passes, Standing, opens}
+use Rattle.tree_scan.proofs.Asking.{Fewer, Keeps, under_itself, same_vouched}
 use Rattle.tree_scan.proofs.Follows.{Pieces, follows_none, follows_part, follows_after, follows_more, written_blocks, echoed_blocks}
 use Rattle.tree_scan.proofs.Lists.{Each, Has, Rises, each_more, each_append, has_left, has_right}
 pub use Rattle.tree_scan.proofs.Past.{Found}
@@ -102,9 +105,10 @@ first_tried dirs pruned root path rest old dir Written fits is_old found p s =
     (has_left (path, dir) (s.went ++ here dirs (is_tried pruned) path) _ (has_right (path, dir) s.went (here dirs (is_tried pruned) path)
     (subst (λ (l : Found). Has {A = List ℕ × Dir} (path, dir) l) (sym (here_tried dirs pruned path dir found p)) (inl refl)))))
 
-pub relied_by : (records entry : List Record) (dirs : Dirs) (plan : Plan) (path : List ℕ) (dir : Dir) → ((r : Record) → Contains records r → Contains entry r) → Honest entry dirs plan → Contains (tried dirs plan.pruned plan.root) (path, dir)
-    → Relied records (plan.device_of path) path dir
-relied_by records entry dirs plan path dir fewer honest there = λ names v.
+pub relied_by : (now entry : Option (List Record)) (dirs : Dirs) (plan : Plan) (path : List ℕ) (dir : Dir) → Fewer entry now → Honest entry dirs plan → Contains (tried dirs plan.pruned plan.root) (path, dir) → Relied now (plan.device_of path) path dir
+relied_by now None dirs plan path dir fewer honest there = absurd honest
+relied_by None (Some e) dirs plan path dir fewer honest there = absurd fewer
+relied_by (Some n) (Some e) dirs plan path dir fewer honest there = λ names v.
     let at : v.known.path ≡ path = v.at in
     let h = honest v.known dir (fewer v.known v.there) (subst (λ (p : List ℕ). Contains (tried dirs plan.pruned plan.root) (p, dir)) (sym at) there)
     (subst (λ (p : List ℕ). bears v.known (time_of dir.times) (plan.device_of p) ≡ true) (sym at) v.bearing) in
@@ -180,7 +184,7 @@ here_few dirs last path = by (get dirs path)
     by None = omega arith
     by (Some dir) = inner dir (last path dir)
 
--- what stood at the start, beside what the standing shows: the look-ups with that of the root, the openings, the records, which paths are priced, and how many names a listed directory may have
+-- what stood at the start, beside what the standing shows: the look-ups with that of the root, the openings, the records, which paths are priced, and the limits
 pub record Start : Type 0 where
   pub taken : Option (List ℕ)
   pub echoed : Option (List ℕ)
@@ -188,7 +192,7 @@ pub record Start : Type 0 where
   pub openings : ℕ
   pub records : List Record
   pub priced : List ℕ → Bool
-  pub names : ℕ
+  pub limits : Limits
 
 pub record Now : Type 0 where
   pub standing : Standing
@@ -206,7 +210,7 @@ pub record Stands (plan : Plan) (now : Moment) (start : Start) (at : Now) (done 
   pub shown : done ≡ filter (λ e. not e.1.hidden) went
   pub past : Past at.standing.progress.pending went
   pub named : Each (λ p. Has p (child_paths done)) at.standing.progress.pending
-  pub narrow : Narrow start.names (unvouched start.records plan done)
+  pub narrow : Narrow start.limits.names (unvouched start.records plan done)
   pub asked : at.stats + weight plan.pruned start.priced at.standing.progress.pending ≤ start.stats + weight plan.pruned start.priced (child_paths done)
   pub opened : IsTrue at.whole → at.openings ≤ start.openings + length (unvouched start.records plan went)
   pub exact : IsTrue at.whole → start.openings ≤ 2 ^ 63 → at.openings ≡ start.openings + length (unvouched start.records plan went)
@@ -221,7 +225,7 @@ pub record Counts (dirs : Dirs) (plan : Plan) (start : Start) (path : List ℕ) 
   pub opened : IsTrue new.whole → new.openings ≡ raised old.openings (opens start.records dirs plan path)
   pub few : new.standing.progress.tried ≤ 4294967295
   pub adds : AddsChildren path old.standing.progress.pending new.standing.progress.pending
-  pub narrow : Narrow start.names (unvouched start.records plan (here dirs (is_open plan.pruned) path))
+  pub narrow : Narrow start.limits.names (unvouched start.records plan (here dirs (is_open plan.pruned) path))
 
 raised_to : (a b n : ℕ) → a + n < 2 ^ 64 → b ≡ raised a n → b ≡ a + n
 raised_to a b n small e = omega (arith, small, e)
@@ -278,7 +282,7 @@ stands_step dirs plan now start path rest old new done went is_old rise p c s lo
       tried = tried_all;
       past = past_more dirs (is_tried plan.pruned) path rest new.standing.progress.pending went (subst (λ (l : List (List ℕ)). AddsChildren path l new.standing.progress.pending) is_old c.adds) rise s.past;
       named = named_step dirs plan.pruned path rest new.standing.progress.pending done (p.pending ∙ ap (λ (l : List (List ℕ)). next dirs plan.pruned path ++ l) is_old) s.named.1;
-      narrow = narrow_append start.names start.records plan done open_here s.narrow c.narrow;
+      narrow = narrow_append start.limits.names start.records plan done open_here s.narrow c.narrow;
       shown = (λ i. s.shown i ++ here_shown dirs plan.pruned path i) ∙ sym (filter_append (λ (e : List ℕ × Dir). not e.1.hidden) went tried_here);
       asked = omega (arith, s.asked, looks, pending, before, children);
       opened = λ w. let m = raised_most old.openings new.openings (opens start.records dirs plan path) (c.opened w) in omega (arith, m, s.opened (c.mark w), sizes);
@@ -312,42 +316,31 @@ part_of u v w f front done at rest all is first piece =
     ∙ ap (λ (l : List ℕ). front ++ l) (ap (λ (l : List ℕ). l ++ flat_map f rest) (sym (flat_map-append f done at)) ∙ sym (flat_map-append f (done ++ at) rest) ∙ ap (flat_map f) is) in
     subst (λ (l : List ℕ). AppendsPart u w l) text (part_first u w ((front ++ flat_map f done) ++ flat_map f at) (flat_map f rest) (part_second u v w (front ++ flat_map f done) (flat_map f at) first piece))
 
--- what a scan has written and echoed when it breaks off
-pub record Parts (dirs : Dirs) (plan : Plan) (now : Moment) (taken taken' echoed echoed' : Option (List ℕ)) : Type 0 where
-  pub written : AppendsPart taken taken' (scan_text dirs plan now)
-  pub lined : AppendsPart echoed echoed' (echo_text dirs plan)
-  pub follows : LinesFollow (scan_pieces dirs plan now) taken taken' echoed echoed'
-
--- the blocks of the directories that are done were written after the header, and their lines echoed
-pub record Wrote (plan : Plan) (now : Moment) (u v e f : Option (List ℕ)) (done : Found) : Type 0 where
-  pub taken : Appends u v (header plan ++ flat_map (block plan now) done)
-  pub echoed : Appends e f (flat_map (lines plan) done)
-
 pub split_map : (dirs : Dirs) (pruned : List ℕ → Bool) (root : List ℕ) (pending : List (List ℕ)) (Written Written' : Found → Found → Type 0) → ((done went : Found) → Written done went → Written' done went) → Split dirs pruned root pending Written → Split dirs pruned root pending Written'
 split_map dirs pruned root pending Written Written' f s = record { done = s.done; went = s.went; written = f s.done s.went s.written; whole = s.whole; all = s.all }
 
-pub wrote_of : (plan : Plan) (now : Moment) (start : Start) (at : Now) (done went : Found) → Stands plan now start at done went → Wrote plan now start.taken at.standing.taken start.echoed at.standing.echoed done
-wrote_of plan now start at done went s = record { taken = s.taken; echoed = s.echoed }
+pub wrote_of : (plan : Plan) (now : Moment) (start : Start) (at : Now) (done went : Found) → Stands plan now start at done went → WroteBlocks plan now done (taken start.taken start.echoed) (taken at.standing.taken at.standing.echoed)
+wrote_of plan now start at done went s = record { blocks = s.taken; lined = s.echoed }
 
 -- the pieces of whole blocks, and then those of the one in hand
-follows_of : (dirs : Dirs) (plan : Plan) (now : Moment) (u v w e f g : Option (List ℕ)) (done at rest : Found) → (done ++ at) ++ rest ≡ reached dirs plan.pruned plan.root → Wrote plan now u v e f done → LinesFollow (flat_map (pieces plan now) at) v w f g
-    → LinesFollow (scan_pieces dirs plan now) u w e g
+follows_of : (dirs : Dirs) (plan : Plan) (now : Moment) (u v w e f g : Option (List ℕ)) (done at rest : Found) → (done ++ at) ++ rest ≡ reached dirs plan.pruned plan.root → WroteBlocks plan now done (taken u e) (taken v f) → LinesFollow (flat_map (pieces plan now) at) (taken v f) (taken w g)
+    → LinesFollow (scan_pieces dirs plan now) (taken u e) (taken w g)
 follows_of dirs plan now u v w e f g done at rest is wrote h =
     let P = pieces plan now in
     let all : ((header plan, []) ∷ flat_map P done) ++ (flat_map P at ++ flat_map P rest) ≡ scan_pieces dirs plan now =
     ap (λ (l : Pieces). (header plan, []) ∷ l) (sym (append_assoc (flat_map P done) (flat_map P at) (flat_map P rest)) ∙ ap (λ (l : Pieces). l ++ flat_map P rest) (sym (flat_map-append P done at)) ∙ sym (flat_map-append P (done ++ at) rest) ∙ ap (flat_map P) is) in
-    subst (λ (l : Pieces). LinesFollow l u w e g) all
+    subst (λ (l : Pieces). LinesFollow l (taken u e) (taken w g)) all
     (follows_after ((header plan, []) ∷ flat_map P done) (flat_map P at ++ flat_map P rest) u v w e f g
-    (subst (λ (l : List ℕ). Appends u v (header plan ++ l)) (sym (written_blocks plan now done)) wrote.taken) (subst (λ (l : List ℕ). Appends e f l) (sym (echoed_blocks plan now done)) wrote.echoed)
+    (subst (λ (l : List ℕ). Appends u v (header plan ++ l)) (sym (written_blocks plan now done)) wrote.blocks) (subst (λ (l : List ℕ). Appends e f l) (sym (echoed_blocks plan now done)) wrote.lined)
     (follows_more (flat_map P at) (flat_map P rest) v w f g h))
 
 pub breaks_off : (dirs : Dirs) (plan : Plan) (now : Moment) (u v v' e f f' : Option (List ℕ)) (path : List ℕ) (rest pending : List (List ℕ)) → length path ≤ 4096 → pending ≡ path ∷ rest
-    → Split dirs plan.pruned plan.root pending (λ done went. Wrote plan now u v e f done) → Breaks dirs plan now path v v' f f' → Parts dirs plan now u v' e f'
+    → Split dirs plan.pruned plan.root pending (λ done went. WroteBlocks plan now done (taken u e) (taken v f)) → Breaks dirs plan now path (taken v f) (taken v' f') → WrotePart dirs plan now (taken u e) (taken v' f')
 breaks_off dirs plan now u v v' e f f' path rest pending fits is_old s b =
     let all = all_here dirs plan.pruned (is_open plan.pruned) path rest pending s.done (reached dirs plan.pruned plan.root) fits is_old s.whole in
     record {
-      written = part_of u v v' (block plan now) (header plan) s.done (here dirs (is_open plan.pruned) path) _ (reached dirs plan.pruned plan.root) all s.written.taken b.written;
-      lined = part_of e f f' (lines plan) [] s.done (here dirs (is_open plan.pruned) path) _ (reached dirs plan.pruned plan.root) all s.written.echoed b.lined;
+      text = part_of u v v' (block plan now) (header plan) s.done (here dirs (is_open plan.pruned) path) _ (reached dirs plan.pruned plan.root) all s.written.blocks b.written;
+      lines_part = part_of e f f' (lines plan) [] s.done (here dirs (is_open plan.pruned) path) _ (reached dirs plan.pruned plan.root) all s.written.lined b.lined;
       follows = follows_of dirs plan now u v v' e f f' s.done (here dirs (is_open plan.pruned) path) _ all s.written b.follows;
     }
 
@@ -357,34 +350,36 @@ take_whole (x ∷ xs) ys = ap (λ (l : List _). x ∷ l) (take_whole xs ys)
 
 -- what was written is the header and whole blocks
 pub whole_blocks : (dirs : Dirs) (plan : Plan) (now : Moment) (u v v' e f f' : Option (List ℕ)) (pending : List (List ℕ)) → (v' ≡ v) × (f' ≡ f)
-    → Split dirs plan.pruned plan.root pending (λ done went. Wrote plan now u v e f done) → Whole dirs plan now u v' e f'
+    → Split dirs plan.pruned plan.root pending (λ done went. WroteBlocks plan now done (taken u e) (taken v f)) → Whole dirs plan now (taken u e) (taken v' f')
 whole_blocks dirs plan now u v v' e f f' pending same s =
     let begin : take (length s.done) (reached dirs plan.pruned plan.root) ≡ s.done = ap (take (length s.done)) (sym s.whole) ∙ take_whole s.done (flat_map (subtree dirs plan.pruned (is_open plan.pruned)) pending) in
     inr (
       length s.done,
-      subst (λ (o : Option (List ℕ)). Appends u o (header plan ++ flat_map (block plan now) (take (length s.done) (reached dirs plan.pruned plan.root)))) (sym same.0)
-          (subst (λ (l : Found). Appends u v (header plan ++ flat_map (block plan now) l)) (sym begin) s.written.taken),
-      subst (λ (o : Option (List ℕ)). Appends e o (flat_map (lines plan) (take (length s.done) (reached dirs plan.pruned plan.root)))) (sym same.1)
-          (subst (λ (l : Found). Appends e f (flat_map (lines plan) l)) (sym begin) s.written.echoed),
+      record {
+        blocks = subst (λ (o : Option (List ℕ)). Appends u o (header plan ++ flat_map (block plan now) (take (length s.done) (reached dirs plan.pruned plan.root)))) (sym same.0)
+            (subst (λ (l : Found). Appends u v (header plan ++ flat_map (block plan now) l)) (sym begin) s.written.blocks);
+        lined = subst (λ (o : Option (List ℕ)). Appends e o (flat_map (lines plan) (take (length s.done) (reached dirs plan.pruned plan.root)))) (sym same.1)
+            (subst (λ (l : Found). Appends e f (flat_map (lines plan) l)) (sym begin) s.written.lined);
+      },
     )
 
 -- nothing was written
-pub whole_none : (dirs : Dirs) (plan : Plan) (now : Moment) (u e : Option (List ℕ)) → Whole dirs plan now u u e e
-whole_none dirs plan now u e = inl (Appends-nil u, Appends-nil e)
+pub whole_none : (dirs : Dirs) (plan : Plan) (now : Moment) (u e : Option (List ℕ)) → Whole dirs plan now (taken u e) (taken u e)
+whole_none dirs plan now u e = inl (record { blocks = Appends-nil u; lined = Appends-nil e })
 
-pub parts_none : (dirs : Dirs) (plan : Plan) (now : Moment) (u e : Option (List ℕ)) → Parts dirs plan now u u e e
-parts_none dirs plan now u e = record { written = part_none u _; lined = part_none e _; follows = follows_none _ u e }
+pub parts_none : (dirs : Dirs) (plan : Plan) (now : Moment) (u e : Option (List ℕ)) → WrotePart dirs plan now (taken u e) (taken u e)
+parts_none dirs plan now u e = record { text = part_none u _; lines_part = part_none e _; follows = follows_none _ u e }
 
 -- a first part of the header
-pub parts_header : (dirs : Dirs) (plan : Plan) (now : Moment) (u v e : Option (List ℕ)) → AppendsPart u v (header plan) → Parts dirs plan now u v e e
-parts_header dirs plan now u v e h = record { written = part_first u v (header plan) (flat_map (block plan now) (reached dirs plan.pruned plan.root)) h; lined = part_none e _; follows = follows_part _ u v e (header plan) h }
+pub parts_header : (dirs : Dirs) (plan : Plan) (now : Moment) (u v e : Option (List ℕ)) → AppendsPart u v (header plan) → WrotePart dirs plan now (taken u e) (taken v e)
+parts_header dirs plan now u v e h = record { text = part_first u v (header plan) (flat_map (block plan now) (reached dirs plan.pruned plan.root)) h; lines_part = part_none e _; follows = follows_part _ u v e (header plan) h }
 
 -- the header, before the first directory
-pub wrote_header : (plan : Plan) (now : Moment) (u v e : Option (List ℕ)) → Appends u v (header plan) → Wrote plan now u v e e []
-wrote_header plan now u v e h = record { taken = subst (λ (l : List ℕ). Appends u v l) (sym (append-nil (header plan))) h; echoed = Appends-nil e }
+pub wrote_header : (plan : Plan) (now : Moment) (u v e : Option (List ℕ)) → Appends u v (header plan) → WroteBlocks plan now [] (taken u e) (taken v e)
+wrote_header plan now u v e h = record { blocks = subst (λ (l : List ℕ). Appends u v l) (sym (append-nil (header plan))) h; lined = Appends-nil e }
 
 -- the records of the path in hand can be relied on
-pub step_relied : (dirs : Dirs) (plan : Plan) (path : List ℕ) (rest old : List (List ℕ)) (now entry : List Record) (Written : Found → Found → Type 0) → ((r : Record) → Contains now r → Contains entry r) → Honest entry dirs plan → length path ≤ 4096 → old ≡ path ∷ rest
+pub step_relied : (dirs : Dirs) (plan : Plan) (path : List ℕ) (rest old : List (List ℕ)) (now entry : Option (List Record)) (Written : Found → Found → Type 0) → Fewer entry now → Honest entry dirs plan → length path ≤ 4096 → old ≡ path ∷ rest
     → Split dirs plan.pruned plan.root old Written → (dir : Dir) → get dirs path ≡ Some dir → plan.pruned path ≡ false → Relied now (plan.device_of path) path dir
 step_relied dirs plan path rest old now entry Written fewer honest fits is_old s dir found open_ =
     relied_by now entry dirs plan path dir fewer honest (first_tried dirs plan.pruned plan.root path rest old dir Written fits is_old found open_ s)
@@ -443,18 +438,18 @@ asked_room dirs plan now start at path rest pending stats' is_old looks s =
 
 -- what was written is that of the first tried directories
 pub wrote_first : (dirs : Dirs) (plan : Plan) (now : Moment) (u v v' e f f' : Option (List ℕ)) (done went below : Found) (count : ℕ) → count ≡ length went → went ++ below ≡ tried dirs plan.pruned plan.root → done ≡ filter (λ d. not d.1.hidden) went
-    → (v' ≡ v) × (f' ≡ f) → Wrote plan now u v e f done → WroteOf plan now (take count (tried dirs plan.pruned plan.root)) u v' e f'
+    → (v' ≡ v) × (f' ≡ f) → WroteBlocks plan now done (taken u e) (taken v f) → WroteBlocks plan now (shown_of (take count (tried dirs plan.pruned plan.root))) (taken u e) (taken v' f')
 wrote_first dirs plan now u v v' e f f' done went below count counted all shown same w =
     let first : take count (tried dirs plan.pruned plan.root) ≡ went = (λ i. take (counted i) (sym all i)) ∙ take_whole went below in
     let is : done ≡ filter (λ d. not d.1.hidden) (take count (tried dirs plan.pruned plan.root)) = shown ∙ ap (filter (λ d. not d.1.hidden)) (sym first) in
     record {
-      blocks = subst (λ (o : Option (List ℕ)). Appends u o (header plan ++ flat_map (block plan now) (filter (λ d. not d.1.hidden) (take count (tried dirs plan.pruned plan.root))))) (sym same.0) (subst (λ (l : Found). Appends u v (header plan ++ flat_map (block plan now) l)) is w.taken);
-      lined = subst (λ (o : Option (List ℕ)). Appends e o (flat_map (lines plan) (filter (λ d. not d.1.hidden) (take count (tried dirs plan.pruned plan.root))))) (sym same.1) (subst (λ (l : Found). Appends e f (flat_map (lines plan) l)) is w.echoed);
+      blocks = subst (λ (o : Option (List ℕ)). Appends u o (header plan ++ flat_map (block plan now) (filter (λ d. not d.1.hidden) (take count (tried dirs plan.pruned plan.root))))) (sym same.0) (subst (λ (l : Found). Appends u v (header plan ++ flat_map (block plan now) l)) is w.blocks);
+      lined = subst (λ (o : Option (List ℕ)). Appends e o (flat_map (lines plan) (filter (λ d. not d.1.hidden) (take count (tried dirs plan.pruned plan.root))))) (sym same.1) (subst (λ (l : Found). Appends e f (flat_map (lines plan) l)) is w.lined);
     }
 
 -- that and no more, where the limit on directories is passed
 pub stops_full : (dirs : Dirs) (plan : Plan) (now : Moment) (start : Start) (at : Now) (path : List ℕ) (pending : List (List ℕ)) (limit : ℕ) (v' f' : Option (List ℕ)) → at.standing.progress.tried ≤ limit → limit < at.standing.progress.tried + length (here dirs (is_tried plan.pruned) path)
-    → (v' ≡ at.standing.taken) × (f' ≡ at.standing.echoed) → Split dirs plan.pruned plan.root pending (Stands plan now start at) → WroteOf plan now (take limit (tried dirs plan.pruned plan.root)) start.taken v' start.echoed f'
+    → (v' ≡ at.standing.taken) × (f' ≡ at.standing.echoed) → Split dirs plan.pruned plan.root pending (Stands plan now start at) → WroteBlocks plan now (shown_of (take limit (tried dirs plan.pruned plan.root))) (taken start.taken start.echoed) (taken v' f')
 stops_full dirs plan now start at path pending limit v' f' most over same s =
     let few = here_few dirs (is_tried plan.pruned) path in
     let count : limit ≡ length s.went = omega (arith, most, over, few, s.written.tried) in
@@ -462,7 +457,7 @@ stops_full dirs plan now start at path pending limit v' f' most over same s =
 
 -- the same at the root
 pub root_full : (dirs : Dirs) (plan : Plan) (now : Moment) (u v v' e f' : Option (List ℕ)) (path : List ℕ) (limit : ℕ) → path ≡ plan.root → length plan.root ≤ 4096 → limit < 0 + length (here dirs (is_tried plan.pruned) path)
-    → (v' ≡ v) × (f' ≡ e) → Appends u v (header plan) → WroteOf plan now (take limit (tried dirs plan.pruned plan.root)) u v' e f'
+    → (v' ≡ v) × (f' ≡ e) → Appends u v (header plan) → WroteBlocks plan now (shown_of (take limit (tried dirs plan.pruned plan.root))) (taken u e) (taken v' f')
 root_full dirs plan now u v v' e f' path limit is fits over same h =
     let few = here_few dirs (is_tried plan.pruned) path in
     let zero_ : limit ≡ 0 = omega (arith, over, few) in
@@ -486,7 +481,7 @@ hand_wide dirs plan path rest pending went limit fits is_old whole n =
     subst (λ (l : Found). IsSomeAnd (slice_get l (length went)) (Wide limit)) text (after_some {A = List ℕ × Dir} went below (path, n.dir) (Wide limit) (n.shown, n.longer))
 
 pub stops_wide : (dirs : Dirs) (plan : Plan) (now : Moment) (start : Start) (at : Now) (path : List ℕ) (rest pending : List (List ℕ)) (limit : ℕ) (v' f' : Option (List ℕ)) → length path ≤ 4096 → pending ≡ path ∷ rest → NamesMore dirs plan.pruned limit path
-    → (v' ≡ at.standing.taken) × (f' ≡ at.standing.echoed) → Split dirs plan.pruned plan.root pending (Stands plan now start at) → StopsAtWide dirs plan now limit start.taken v' start.echoed f'
+    → (v' ≡ at.standing.taken) × (f' ≡ at.standing.echoed) → Split dirs plan.pruned plan.root pending (Stands plan now start at) → StopsAtWide dirs plan now limit (taken start.taken start.echoed) (taken v' f')
 stops_wide dirs plan now start at path rest pending limit v' f' fits is_old n same s = record {
   count = length s.went;
   wrote = wrote_first dirs plan now start.taken at.standing.taken v' start.echoed at.standing.echoed f' s.done s.went (flat_map (subtree dirs plan.pruned (is_tried plan.pruned)) pending) (length s.went) refl s.all s.written.shown same (wrote_of plan now start at s.done s.went s.written);
@@ -494,7 +489,7 @@ stops_wide dirs plan now start at path rest pending limit v' f' fits is_old n sa
 }
 
 pub root_wide : (dirs : Dirs) (plan : Plan) (now : Moment) (u v v' e f' : Option (List ℕ)) (path : List ℕ) (limit : ℕ) → path ≡ plan.root → length plan.root ≤ 4096 → NamesMore dirs plan.pruned limit path
-    → (v' ≡ v) × (f' ≡ e) → Appends u v (header plan) → StopsAtWide dirs plan now limit u v' e f'
+    → (v' ≡ v) × (f' ≡ e) → Appends u v (header plan) → StopsAtWide dirs plan now limit (taken u e) (taken v' f')
 root_wide dirs plan now u v v' e f' path limit is fits n same h =
     let all : flat_map (subtree dirs plan.pruned (is_tried plan.pruned)) (path ∷ []) ≡ tried dirs plan.pruned plan.root =
     append-nil (subtree dirs plan.pruned (is_tried plan.pruned) path) ∙ ap (subtree dirs plan.pruned (is_tried plan.pruned)) is ∙ walk_is_led dirs plan.pruned (is_tried plan.pruned) plan.root fits in

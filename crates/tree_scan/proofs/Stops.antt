@@ -10,6 +10,7 @@ use Rattle.path_order.specs.Stamp.{Moment}
 use Rattle.path_order.specs.Order.{path_cmp}
 use Rattle.path_order.specs.Path.{is_root}
 use Rattle.loc_outside.specs.Trees.{Dir, Dirs}
+use Rattle.tree_scan.specs.declared.rules.Limits.{Limits}
 use Rattle.tree_scan.specs.Admitted.{admitted, paths_in}
 use Rattle.tree_scan.specs.Blocks.{block, header, lines, time_of}
 use Rattle.tree_scan.specs.Plan.{Plan}
@@ -17,10 +18,10 @@ use Rattle.tree_scan.specs.Reach.{Test, is_open, is_tried, reached, tried}
 use Rattle.tree_scan.specs.Records.{Record, is_vouched, unvouched}
 use Rattle.tree_scan.specs.Steps.{child_paths, here, next}
 unfoldable use Rattle.tree_scan.specs.Steps.{walk, subtree}
-use Rattle.tree_scan.specs.Walks.{CameTo, HasWide, IsCandidate, NamesMore, Narrow, before}
+use Rattle.tree_scan.specs.Stops.{CameTo, HasWide, IsCandidate, NamesMore, Narrow, WroteBlocks, before, taken}
 use Rattle.tree_scan.proofs.Asking.{Keeps, fewer_vouched, same_vouched, under_itself}
 use Rattle.tree_scan.proofs.Lists.{Each, Has, Rises, each_more, each_append, each_filter, each_flat_map, has_left, has_right}
-use Rattle.tree_scan.proofs.Loop.{Found, Split, Stands, Start, Now, Wrote, all_here, contains_has}
+use Rattle.tree_scan.proofs.Loop.{Found, Split, Stands, Start, Now, all_here, contains_has}
 use Rattle.tree_scan.proofs.Order.{Before, path_total}
 use Rattle.tree_scan.proofs.Past.{Past}
 use Rattle.tree_scan.proofs.Same.{walk_is_led}
@@ -83,21 +84,23 @@ contains_path x (y ∷ ys) (inl e) = (0, omega arith, sym e)
 contains_path x (y ∷ ys) (inr h) = let r = contains_path x ys h in (suc r.0, omega (arith, r.1), r.2)
 
 -- what was written is that before the path in hand
-came : (records : List Record) (names directories : ℕ) (dirs : Dirs) (plan : Plan) (now : Moment) (u v v' e f f' : Option (List ℕ)) (path : List ℕ) (done went : Found) → before path (reached dirs plan.pruned plan.root) ≡ done
-    → before path (tried dirs plan.pruned plan.root) ≡ went → IsCandidate dirs plan.pruned plan.root path → Narrow names (unvouched records plan done) → length went ≤ directories
-    → (v' ≡ v) × (f' ≡ f) → Wrote plan now u v e f done → CameTo records names directories dirs plan now path u v' e f'
-came records names directories dirs plan now u v v' e f f' path done went is all candidate narrow few same w = record {
+came : (records : List Record) (limits : Limits) (dirs : Dirs) (plan : Plan) (now : Moment) (u v v' e f f' : Option (List ℕ)) (path : List ℕ) (done went : Found) → before path (reached dirs plan.pruned plan.root) ≡ done
+    → before path (tried dirs plan.pruned plan.root) ≡ went → IsCandidate dirs plan.pruned plan.root path → Narrow limits.names (unvouched records plan done) → length went ≤ limits.directories
+    → (v' ≡ v) × (f' ≡ f) → WroteBlocks plan now done (taken u e) (taken v f) → CameTo records limits dirs plan now path (taken u e) (taken v' f')
+came records limits dirs plan now u v v' e f f' path done went is all candidate narrow few same w = record {
   candidate = candidate;
-  blocks = subst (λ (o : Option (List ℕ)). Appends u o (header plan ++ flat_map (block plan now) (before path (reached dirs plan.pruned plan.root)))) (sym same.0) (subst (λ (l : Found). Appends u v (header plan ++ flat_map (block plan now) l)) (sym is) w.taken);
-  lined = subst (λ (o : Option (List ℕ)). Appends e o (flat_map (lines plan) (before path (reached dirs plan.pruned plan.root)))) (sym same.1) (subst (λ (l : Found). Appends e f (flat_map (lines plan) l)) (sym is) w.echoed);
-  narrow = subst (λ (l : Found). Narrow names (unvouched records plan l)) (sym is) narrow;
-  few = subst (λ (l : Found). length l ≤ directories) (sym all) few;
+  wrote = record {
+    blocks = subst (λ (o : Option (List ℕ)). Appends u o (header plan ++ flat_map (block plan now) (before path (reached dirs plan.pruned plan.root)))) (sym same.0) (subst (λ (l : Found). Appends u v (header plan ++ flat_map (block plan now) l)) (sym is) w.blocks);
+    lined = subst (λ (o : Option (List ℕ)). Appends e o (flat_map (lines plan) (before path (reached dirs plan.pruned plan.root)))) (sym same.1) (subst (λ (l : Found). Appends e f (flat_map (lines plan) l)) (sym is) w.lined);
+  };
+  narrow = subst (λ (l : Found). Narrow limits.names (unvouched records plan l)) (sym is) narrow;
+  few = subst (λ (l : Found). length l ≤ limits.directories) (sym all) few;
 }
 
-pub came_to : (dirs : Dirs) (plan : Plan) (now : Moment) (start : Start) (at : Now) (directories : ℕ) (path : List ℕ) (rest : List (List ℕ)) (v' f' : Option (List ℕ)) → length path ≤ 4096 → at.standing.progress.pending ≡ path ∷ rest → Rises Apart (path ∷ rest) → plan.pruned path ≡ false
-    → at.standing.progress.tried ≤ directories → (v' ≡ at.standing.taken) × (f' ≡ at.standing.echoed) → Split dirs plan.pruned plan.root at.standing.progress.pending (Stands plan now start at)
-    → CameTo start.records start.names directories dirs plan now path start.taken v' start.echoed f'
-came_to dirs plan now start at directories path rest v' f' fits is_old rise open_ most same s =
+pub came_to : (dirs : Dirs) (plan : Plan) (now : Moment) (start : Start) (at : Now) (path : List ℕ) (rest : List (List ℕ)) (v' f' : Option (List ℕ)) → length path ≤ 4096 → at.standing.progress.pending ≡ path ∷ rest → Rises Apart (path ∷ rest) → plan.pruned path ≡ false
+    → at.standing.progress.tried ≤ start.limits.directories → (v' ≡ at.standing.taken) × (f' ≡ at.standing.echoed) → Split dirs plan.pruned plan.root at.standing.progress.pending (Stands plan now start at)
+    → CameTo start.records start.limits dirs plan now path (taken start.taken start.echoed) (taken v' f')
+came_to dirs plan now start at path rest v' f' fits is_old rise open_ most same s =
     let past = subst (λ (l : List (List ℕ)). Past l s.went) is_old s.written.past in
     let earlier : Each (Earlier path) s.went = each_more _ _ (λ x h. h.0) s.went past in
     let earlier_done : Each (Earlier path) s.done = subst (Each (Earlier path)) (sym s.written.shown) (each_filter (Earlier path) (λ e. not e.1.hidden) s.went earlier) in
@@ -106,21 +109,21 @@ came_to dirs plan now start at directories path rest v' f' fits is_old rise open
     let children : child_paths s.done ++ child_paths below ≡ child_paths (reached dirs plan.pruned plan.root) = sym (flat_map-append (λ (e : List ℕ × Dir). paths_in e.0 (admitted e.0 e.1)) s.done below) ∙ ap child_paths s.whole in
     let candidate : Contains (child_paths (reached dirs plan.pruned plan.root)) path × (plan.pruned path ≡ false) =
     (contains_path path (child_paths (reached dirs plan.pruned plan.root)) (subst (λ (l : List (List ℕ)). Has path l) children (has_left path (child_paths s.done) (child_paths below) named.0)), open_) in
-    came start.records start.names directories dirs plan now start.taken at.standing.taken v' start.echoed at.standing.echoed f' path s.done s.went
+    came start.records start.limits dirs plan now start.taken at.standing.taken v' start.echoed at.standing.echoed f' path s.done s.went
     (before_hand dirs plan.pruned (is_open plan.pruned) path rest at.standing.progress.pending s.done (reached dirs plan.pruned plan.root) fits is_old rise.0 earlier_done s.whole)
     (before_hand dirs plan.pruned (is_tried plan.pruned) path rest at.standing.progress.pending s.went (tried dirs plan.pruned plan.root) fits is_old rise.0 earlier s.all) (inr candidate) s.written.narrow
-    (omega (arith, most, s.written.tried)) same (record { taken = s.written.taken; echoed = s.written.echoed })
+    (omega (arith, most, s.written.tried)) same (record { blocks = s.written.taken; lined = s.written.echoed })
 
 -- the same at the root
-pub came_to_root : (records : List Record) (names directories : ℕ) (dirs : Dirs) (plan : Plan) (now : Moment) (u v v' e f' : Option (List ℕ)) (path : List ℕ) → path ≡ plan.root → length plan.root ≤ 4096 → (v' ≡ v) × (f' ≡ e) → Wrote plan now u v e e []
-    → CameTo records names directories dirs plan now path u v' e f'
-came_to_root records names directories dirs plan now u v v' e f' path is fits same w =
+pub came_to_root : (records : List Record) (limits : Limits) (dirs : Dirs) (plan : Plan) (now : Moment) (u v v' e f' : Option (List ℕ)) (path : List ℕ) → path ≡ plan.root → length plan.root ≤ 4096 → (v' ≡ v) × (f' ≡ e) → WroteBlocks plan now [] (taken u e) (taken v e)
+    → CameTo records limits dirs plan now path (taken u e) (taken v' f')
+came_to_root records limits dirs plan now u v v' e f' path is fits same w =
     let path_fits = subst (λ (p : List ℕ). length p ≤ 4096) (sym is) fits in
     let whole : flat_map (subtree dirs plan.pruned (is_open plan.pruned)) (path ∷ []) ≡ reached dirs plan.pruned plan.root =
     append-nil (subtree dirs plan.pruned (is_open plan.pruned) path) ∙ ap (subtree dirs plan.pruned (is_open plan.pruned)) is ∙ walk_is_led dirs plan.pruned (is_open plan.pruned) plan.root fits in
     let all : flat_map (subtree dirs plan.pruned (is_tried plan.pruned)) (path ∷ []) ≡ tried dirs plan.pruned plan.root =
     append-nil (subtree dirs plan.pruned (is_tried plan.pruned) path) ∙ ap (subtree dirs plan.pruned (is_tried plan.pruned)) is ∙ walk_is_led dirs plan.pruned (is_tried plan.pruned) plan.root fits in
-    came records names directories dirs plan now u v v' e e f' path [] [] (before_hand dirs plan.pruned (is_open plan.pruned) path [] (path ∷ []) [] (reached dirs plan.pruned plan.root) path_fits refl tt tt whole)
+    came records limits dirs plan now u v v' e e f' path [] [] (before_hand dirs plan.pruned (is_open plan.pruned) path [] (path ∷ []) [] (reached dirs plan.pruned plan.root) path_fits refl tt tt whole)
     (before_hand dirs plan.pruned (is_tried plan.pruned) path [] (path ∷ []) [] (tried dirs plan.pruned plan.root) path_fits refl tt tt all) (inl is) (λ k d l. absurd (omega (arith, l))) (omega arith) same w
 
 -- while the voucher is whole, what was not vouched for by the records that are left was not by those at the entry

@@ -13,9 +13,10 @@ use Rattle.tree_scan.specs.Admitted.{admitted, paths_in}
 use Rattle.tree_scan.specs.Blocks.{block, block_pieces, block_text, entries_of, lines, lines_of, pieces, stamped, time_of}
 use Rattle.tree_scan.specs.Plan.{Plan}
 use Rattle.tree_scan.specs.Reach.{is_open, is_tried}
-use Rattle.tree_scan.specs.Records.{Record, Leaves, is_vouched, unvouched}
+use Rattle.tree_scan.specs.Records.{Record, is_vouched, unvouched}
 use Rattle.tree_scan.specs.Steps.{here, weight}
-use Rattle.tree_scan.specs.Walks.{Passes, Breaks, LinesFollow, AddsChildren, opens, standing}
+use Rattle.tree_scan.specs.Stops.{LinesFollow, taken}
+use Rattle.tree_scan.specs.Walks.{AddsChildren, Breaks, Passes, opens, standing}
 use Rattle.tree_scan.specs.declared.progress.Progress.{Progress}
 use Rattle.tree_scan.proofs.Follows.{Pieces, follows_none}
 use Rattle.tree_scan.proofs.TreeAnswers.{one, here_open, next_open, here_tried, Nothing}
@@ -82,7 +83,7 @@ passes_nothing dirs plan now path u e old n = record {
 pub breaks_shown : (dirs : Dirs) (plan : Plan) (now time stamp : Moment) (written device : ℕ) (path : List ℕ) (dir : Dir) (names : Listed) (u v e f : Known)
     → get dirs path ≡ Some dir → plan.pruned path ≡ false → (dir.hidden ≡ false) × (names ≡ admitted path dir) → time ≡ time_of dir.times
     → stamp ≡ stamped plan.margin time now → written ≡ (if plan.version == 1 then device else 0) → device ≡ plan.device_of path
-    → AppendsPart u v (block_text stamp written path names) → AppendsPart e f (lines_of plan.verbose path names) → LinesFollow (block_pieces plan.verbose stamp written path names) u v e f → Breaks dirs plan now path u v e f
+    → AppendsPart u v (block_text stamp written path names) → AppendsPart e f (lines_of plan.verbose path names) → LinesFollow (block_pieces plan.verbose stamp written path names) (taken u e) (taken v f) → Breaks dirs plan now path (taken u e) (taken v f)
 breaks_shown dirs plan now time stamp written device path dir names u v e f found open_ seen at stamp_is written_is device_is put lined follows =
     let here_is : here dirs (is_open plan.pruned) path ≡ one path dir = here_open dirs plan.pruned path dir found open_ ∙ ap (λ (b : Bool). cond b [] (one path dir)) seen.0 in
     let text : block_text stamp written path names ≡ block plan now (path, dir) =
@@ -92,15 +93,15 @@ breaks_shown dirs plan now time stamp written device path dir names u v e f foun
     record {
       written = subst (λ (l : List ℕ). AppendsPart u v l) (text ∙ sym (ap (flat_map (block plan now)) here_is ∙ append-nil (block plan now (path, dir)))) put;
       lined = subst (λ (l : List ℕ). AppendsPart e f l) (ap (lines_of plan.verbose path) seen.1 ∙ sym (ap (flat_map (lines plan)) here_is ∙ append-nil (lines plan (path, dir)))) lined;
-      follows = subst (λ (l : Pieces). LinesFollow l u v e f) (pieces_are ∙ sym (ap (flat_map (pieces plan now)) here_is ∙ append-nil (pieces plan now (path, dir)))) follows;
+      follows = subst (λ (l : Pieces). LinesFollow l (taken u e) (taken v f)) (pieces_are ∙ sym (ap (flat_map (pieces plan now)) here_is ∙ append-nil (pieces plan now (path, dir)))) follows;
     }
 
 -- nothing was written
-pub breaks_none : (dirs : Dirs) (plan : Plan) (now : Moment) (path : List ℕ) (u v e f : Known) → v ≡ u → f ≡ e → Breaks dirs plan now path u v e f
+pub breaks_none : (dirs : Dirs) (plan : Plan) (now : Moment) (path : List ℕ) (u v e f : Known) → v ≡ u → f ≡ e → Breaks dirs plan now path (taken u e) (taken v f)
 breaks_none dirs plan now path u v e f same_t same_e = record {
   written = subst (λ (o : Known). AppendsPart u o (flat_map (block plan now) (here dirs (is_open plan.pruned) path))) (sym same_t) (part_none u _);
   lined = subst (λ (o : Known). AppendsPart e o (flat_map (lines plan) (here dirs (is_open plan.pruned) path))) (sym same_e) (part_none e _);
-  follows = subst (λ (o : Known). LinesFollow (flat_map (pieces plan now) (here dirs (is_open plan.pruned) path)) u o e f) (sym same_t) (subst (λ (o : Known). LinesFollow (flat_map (pieces plan now) (here dirs (is_open plan.pruned) path)) u u e o) (sym same_e) (follows_none _ u e));
+  follows = subst (λ (o : Known). LinesFollow (flat_map (pieces plan now) (here dirs (is_open plan.pruned) path)) (taken u e) (taken o f)) (sym same_t) (subst (λ (o : Known). LinesFollow (flat_map (pieces plan now) (here dirs (is_open plan.pruned) path)) (taken u e) (taken u o)) (sym same_e) (follows_none _ u e));
 }
 
 -- what a directory is worth
@@ -140,10 +141,6 @@ stat_share priced path root stats stats' is e = subst (λ (p : List ℕ). stats'
 
 pub raised_nothing : (n m : ℕ) → n < 2 ^ 64 → m ≡ 0 → n ≡ raised n m
 raised_nothing n m small e = omega (arith, small, e)
-
--- where no question was asked
-pub leaves_same : (path : List ℕ) (records : List Record) (whole : Bool) → Leaves path records whole records whole
-leaves_same path records whole = record { some = λ r h. h; mark = λ w. w; later = λ w r h b. h }
 
 -- how often a directory that is there and not pruned counts
 pub here_once : (dirs : Dirs) (pruned : List ℕ → Bool) (path : List ℕ) (dir : Dir) → get dirs path ≡ Some dir → pruned path ≡ false → length (here dirs (is_tried pruned) path) ≡ 1

@@ -1,9 +1,11 @@
-pub mod Admitted
-pub mod Blocks
 pub mod Plan
 pub mod Plans
+pub mod Admitted
 pub mod Reach
+pub mod Blocks
 pub mod Records
-pub mod Stack
 pub mod Steps
+pub mod Stops
+pub mod Scans
+pub mod Stack
 pub mod Walks

@@ -1,5 +1,5 @@
 -- Records of directories in an old database, and when they can be relied on.
-use Rattle.std.specs.Prelude.{◌≡◌, ◌≤◌, ℕ, Bool, true, false, not, ◌&&◌, ◌==◌, List, length, filter, Contains, All, IsTrue, Option}
+use Rattle.std.specs.Prelude.{◌≡◌, ◌≤◌, ℕ, Bool, true, false, not, ◌&&◌, ◌==◌, List, [], length, filter, Contains, All, IsTrue, Option, Some, None, is_some, IfSome, IsSomeAnd}
 use Rattle.std.specs.Option.{option_map_or}
 use Rattle.std.specs.declared.cmp.Ordering.TheVariants.{Less}
 use Rattle.std.specs.List.{list_any}
@@ -46,15 +46,27 @@ pub record Vouches (records : List Record) (path : List ℕ) (time : Moment) (de
 abbrev pub unvouched : List Record → Plan → List (List ℕ × Dir) → List (List ℕ × Dir)
 unvouched records plan dirs = filter (λ e. not (is_vouched records e.0 (time_of e.1.times) (plan.device_of e.0))) dirs
 
--- each tried directory that still bears the time and the device of one of its records shows the names of the record
-abbrev pub Honest : List Record → Dirs → Plan → Type 0
-Honest records dirs plan =
+-- Each tried directory that still bears the time and the device of one of its records shows the names of the record. Where
+-- the records are not known, nothing can be relied on.
+abbrev pub Honest : Option (List Record) → Dirs → Plan → Type 0
+Honest None dirs plan = ⊥
+Honest (Some records) dirs plan =
     (r : Record) (dir : Dir) → Contains records r → Contains (tried dirs plan.pruned plan.root) (r.path, dir) → bears r (time_of dir.times) (plan.device_of r.path) ≡ true
     → (dir.hidden ≡ false) × (admitted r.path dir ≡ r.names)
 
 -- the names of a record that vouches for this directory are its own, and it shows them
-abbrev pub Relied : List Record → ℕ → List ℕ → Dir → Type 0
-Relied records device path dir = (names : Listed) → Vouches records path (time_of dir.times) device names → (dir.hidden ≡ false) × (admitted path dir ≡ names)
+abbrev pub Relied : Option (List Record) → ℕ → List ℕ → Dir → Type 0
+Relied None device path dir = ⊥
+Relied (Some records) device path dir = (names : Listed) → Vouches records path (time_of dir.times) device names → (dir.hidden ≡ false) × (admitted path dir ≡ names)
+
+-- the records, where they are known
+abbrev pub known : Option (List Record) → List Record
+known None = []
+known (Some records) = records
+
+-- whether a voucher's records are known and ordered, and its reading is unbroken
+abbrev pub answers_all : Option (List Record) → Bool → Bool → Bool
+answers_all records ordered unbroken = is_some records && (ordered && unbroken)
 
 -- names that fit a directory's path, rising by their bytes, at most 16,777,216
 pub record Fitting (path : List ℕ) (names : Listed) : Type 0 where
@@ -62,9 +74,12 @@ pub record Fitting (path : List ℕ) (names : Listed) : Type 0 where
   pub rise : Rises names
   pub few : length names ≤ 16777216
 
--- What a question leaves of a voucher's records: some of them, and while it is whole, all whose path comes after the
--- directory's. A mark that is lost does not come back.
-pub record Leaves (dir : List ℕ) (records : List Record) (whole : Bool) (records' : List Record) (whole' : Bool) : Type 0 where
-  pub some : (r : Record) → Contains records' r → Contains records r
-  pub mark : IsTrue whole' → IsTrue whole
-  pub later : IsTrue whole' → (r : Record) → Contains records r → path_cmp dir r.path ≡ Less → Contains records' r
+-- What a question leaves of known records: some of them, and, where they were ordered and the voucher is still unbroken,
+-- each whose path comes after the directory's.
+pub record LeavesOf (dir : List ℕ) (records : List Record) (ordered : Bool) (left : List Record) (unbroken : Bool) : Type 0 where
+  pub some : (r : Record) → Contains left r → Contains records r
+  pub later : IsTrue ordered → IsTrue unbroken → (r : Record) → Contains records r → path_cmp dir r.path ≡ Less → Contains left r
+
+-- known records stay known
+abbrev pub Leaves : List ℕ → Option (List Record) → Bool → Option (List Record) → Bool → Type 0
+Leaves dir records ordered left unbroken = IfSome records (λ before. IsSomeAnd left (λ after. LeavesOf dir before ordered after unbroken))

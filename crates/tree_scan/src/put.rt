@@ -7,7 +7,7 @@ ghost use Rattle.loc_outside.specs.Outside.{AppendsPart};
 ghost use Rattle.tree_scan.specs.Admitted.{fits_in};
 ghost use Rattle.tree_scan.specs.Blocks.{block_pieces, block_text, entry_text, head_text, header, line, lines_of};
 ghost use Rattle.tree_scan.specs.Plans.{plan_of};
-ghost use Rattle.tree_scan.specs.Walks.{LinesFollow};
+ghost use Rattle.tree_scan.specs.Stops.{LinesFollow, taken};
 
 use crate::Rules;
 use loc_outside::{Failed, Sink, put_all};
@@ -52,7 +52,7 @@ fn put_name<D: Sink, P: Sink>(
     ensures err { OnErr result (AppendsPart (D.taken sink.old) (D.taken sink.new) (entry_text (name.now, kind))) }
     ensures echoed { OnOk result (Appends (P.taken echo.old) (P.taken echo.new) (if verbose then line path.old (name.now, kind) else [])) }
     ensures echo_err { OnErr result (AppendsPart (P.taken echo.old) (P.taken echo.new) (if verbose then line path.old (name.now, kind) else [])) }
-    ensures follows { OnErr result (LinesFollow ((entry_text (name.now, kind), if verbose then line path.old (name.now, kind) else []) ∷ []) (D.taken sink.old) (D.taken sink.new) (P.taken echo.old) (P.taken echo.new)) }
+    ensures follows { OnErr result (LinesFollow ((entry_text (name.now, kind), if verbose then line path.old (name.now, kind) else []) ∷ []) (taken (D.taken sink.old) (P.taken echo.old)) (taken (D.taken sink.new) (P.taken echo.new))) }
     ensures path { OnOk result (path.new ≡ path.old) }
     ensures quiet { verbose ≡ false → echo.new ≡ echo.old }
     ensures later { D.faults sink.old ≤ D.faults sink.new }
@@ -83,7 +83,7 @@ fn put_entries<D: Sink, P: Sink>(
     ensures err { OnErr result (AppendsPart (D.taken sink.old) (D.taken sink.new) (flat_map entry_text names.now)) }
     ensures echoed { OnOk result (Appends (P.taken echo.old) (P.taken echo.new) (lines_of verbose path.old names.now)) }
     ensures echo_err { OnErr result (AppendsPart (P.taken echo.old) (P.taken echo.new) (lines_of verbose path.old names.now)) }
-    ensures follows { OnErr result (LinesFollow (map (λ e. (entry_text e, if verbose then line path.old e else [])) names.now) (D.taken sink.old) (D.taken sink.new) (P.taken echo.old) (P.taken echo.new)) }
+    ensures follows { OnErr result (LinesFollow (map (λ e. (entry_text e, if verbose then line path.old e else [])) names.now) (taken (D.taken sink.old) (P.taken echo.old)) (taken (D.taken sink.new) (P.taken echo.new))) }
     ensures path { OnOk result (path.new ≡ path.old) }
     ensures quiet { verbose ≡ false → echo.new ≡ echo.old }
     ensures later { D.faults sink.old ≤ D.faults sink.new }
@@ -127,7 +127,7 @@ pub(crate) fn put_block<D: Sink, P: Sink>(
     ensures err { OnErr result (AppendsPart (D.taken sink.old) (D.taken sink.new) (block_text stamp device path.old names.now)) }
     ensures echoed { OnOk result (Appends (P.taken echo.old) (P.taken echo.new) (lines_of verbose path.old names.now)) }
     ensures echo_err { OnErr result (AppendsPart (P.taken echo.old) (P.taken echo.new) (lines_of verbose path.old names.now)) }
-    ensures follows { OnErr result (LinesFollow (block_pieces verbose stamp device path.old names.now) (D.taken sink.old) (D.taken sink.new) (P.taken echo.old) (P.taken echo.new)) }
+    ensures follows { OnErr result (LinesFollow (block_pieces verbose stamp device path.old names.now) (taken (D.taken sink.old) (P.taken echo.old)) (taken (D.taken sink.new) (P.taken echo.new))) }
     ensures quiet { verbose ≡ false → echo.new ≡ echo.old }
     ensures later { D.faults sink.old ≤ D.faults sink.new }
     ensures echo_later { P.faults echo.old ≤ P.faults echo.new }

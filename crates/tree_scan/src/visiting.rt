@@ -1,15 +1,14 @@
 //! One directory of the walk.
-ghost use Rattle.std.specs.Prelude.{◌≡◌, ◌≤◌, ◌<◌, ◌+◌, ◌⊎◌, length, OnOk, OnErr, IfErr, IfSome, IsTrue, IsErrOf, false, if◌then◌else◌};
-ghost use Rattle.std.specs.declared.cmp.Ordering.TheVariants.{Less};
+ghost use Rattle.std.specs.Prelude.{IsSome, ◌≡◌, ◌≤◌, ◌<◌, ◌+◌, ◌⊎◌, length, OnOk, OnErr, IfErr, IsTrue, IsErrOf, false, if◌then◌else◌};
 ghost use Rattle.std.specs.FinMap.{get, entries};
-ghost use Rattle.path_order.specs.Order.{path_cmp};
 ghost use Rattle.path_order.specs.Path.{is_normal};
 ghost use Rattle.loc_outside.specs.Causes.{Rose, raised};
 ghost use Rattle.loc_outside.specs.Trees.{Dirs, Dir};
 ghost use Rattle.tree_scan.specs.Blocks.{time_of};
 ghost use Rattle.tree_scan.specs.Plans.{plan_of};
-ghost use Rattle.tree_scan.specs.Records.{Leaves, Relied, is_vouched};
-ghost use Rattle.tree_scan.specs.Walks.{standing, Passes, Breaks, Counted, AddsChildren, FloorMoves, is_whole_after};
+ghost use Rattle.tree_scan.specs.Records.{answers_all, known, Leaves, Relied, is_vouched};
+ghost use Rattle.tree_scan.specs.Stops.{taken};
+ghost use Rattle.tree_scan.specs.Walks.{standing, Passes, Breaks, Counted, AddsChildren, is_whole_after};
 
 use crate::children::push_children;
 use crate::finding::find_names;
@@ -38,29 +37,29 @@ pub(crate) fn visit<T: Tree, V: Voucher, D: Sink, P: Sink>(
     requires tried { progress.old.tried ≤ limits.now.directories }
     requires counted { Counted progress.old }
     requires sound { IsTrue (V.sound voucher.old) }
-    requires floor { IfSome (V.floor voucher.old) (λ floor. path_cmp floor path.old ≡ Less) }
     requires normal { IsTrue (is_normal path.old) }
     requires unpruned { (plan_of rules.now).pruned path.old ≡ false }
     ensures no_missing { IsErrOf result ScanFault.RootMissing → ⊥ }
     ensures shown { OnOk result ((dirs : Dirs) (dir : Dir) → T.dirs tree.old ≡ Some dirs → get dirs path.old ≡ Some dir → time ≡ time_of dir.times → Relied (V.records voucher.old) ((plan_of rules.now).device_of path.old) path.old dir → Passes dirs (plan_of rules.now) now path.old (standing (D.taken sink.old) (P.taken echo.old) progress.old) (standing (D.taken sink.new) (P.taken echo.new) progress.new)) }
-    ensures breaks { OnErr result ((dirs : Dirs) (dir : Dir) → T.dirs tree.old ≡ Some dirs → get dirs path.old ≡ Some dir → time ≡ time_of dir.times → Relied (V.records voucher.old) ((plan_of rules.now).device_of path.old) path.old dir → Breaks dirs (plan_of rules.now) now path.old (D.taken sink.old) (D.taken sink.new) (P.taken echo.old) (P.taken echo.new)) }
+    ensures breaks { OnErr result ((dirs : Dirs) (dir : Dir) → T.dirs tree.old ≡ Some dirs → get dirs path.old ≡ Some dir → time ≡ time_of dir.times → Relied (V.records voucher.old) ((plan_of rules.now).device_of path.old) path.old dir → Breaks dirs (plan_of rules.now) now path.old (taken (D.taken sink.old) (P.taken echo.old)) (taken (D.taken sink.new) (P.taken echo.new))) }
     ensures tried { OnOk result (progress.new.tried ≡ progress.old.tried + 1) }
     ensures once { progress.new.tried ≤ progress.old.tried + 1 }
     ensures more { OnOk result (length progress.new.pending ≤ length progress.old.pending + 16777216) }
     ensures many { IsErrOf result ScanFault.TooManyDirectories → limits.now.directories ≤ progress.old.tried }
-    ensures kept_limit { OnOk result ((dirs : Dirs) (dir : Dir) → T.dirs tree.old ≡ Some dirs → get dirs path.old ≡ Some dir → is_vouched (V.records voucher.old) path.old time ((plan_of rules.now).device_of path.old) ≡ false → dir.hidden ≡ false → length (entries dir.names) ≤ limits.now.names) }
-    ensures listed { IsErrOf result ScanFault.TooManyNames → IsTrue (V.whole voucher.new) → is_vouched (V.records voucher.old) path.old time ((plan_of rules.now).device_of path.old) ≡ false }
+    ensures kept_limit { OnOk result (IsSome (V.records voucher.old) → (dirs : Dirs) (dir : Dir) → T.dirs tree.old ≡ Some dirs → get dirs path.old ≡ Some dir → is_vouched (known (V.records voucher.old)) path.old time ((plan_of rules.now).device_of path.old) ≡ false → dir.hidden ≡ false → length (entries dir.names) ≤ limits.now.names) }
+    ensures listed { IsErrOf result ScanFault.TooManyNames → IsTrue (answers_all (V.records voucher.old) (V.ordered voucher.old) (V.unbroken voucher.new)) → is_vouched (known (V.records voucher.old)) path.old time ((plan_of rules.now).device_of path.old) ≡ false }
     ensures many_names { IsErrOf result ScanFault.TooManyNames → (dirs : Dirs) (dir : Dir) → T.dirs tree.old ≡ Some dirs → get dirs path.old ≡ Some dir → (dir.hidden ≡ false) × (limits.now.names < length (entries dir.names)) }
-    ensures opened { IsTrue (V.whole voucher.new) → T.openings tree.new ≤ T.openings tree.old + (if is_vouched (V.records voucher.old) path.old time ((plan_of rules.now).device_of path.old) then 0 else 1) }
-    ensures exact { OnOk result (IsTrue (V.whole voucher.new) → T.openings tree.new ≡ raised (T.openings tree.old) (if is_vouched (V.records voucher.old) path.old time ((plan_of rules.now).device_of path.old) then 0 else 1)) }
+    ensures opened { IsTrue (answers_all (V.records voucher.old) (V.ordered voucher.old) (V.unbroken voucher.new)) → T.openings tree.new ≤ T.openings tree.old + (if is_vouched (known (V.records voucher.old)) path.old time ((plan_of rules.now).device_of path.old) then 0 else 1) }
+    ensures exact { OnOk result (IsTrue (answers_all (V.records voucher.old) (V.ordered voucher.old) (V.unbroken voucher.new)) → T.openings tree.new ≡ raised (T.openings tree.old) (if is_vouched (known (V.records voucher.old)) path.old time ((plan_of rules.now).device_of path.old) then 0 else 1)) }
     ensures stats { T.stats tree.new ≡ T.stats tree.old }
     ensures whole { IfErr result (λ e. IsTrue (is_whole_after e) → (D.taken sink.new ≡ D.taken sink.old) × (P.taken echo.new ≡ P.taken echo.old)) }
     ensures quiet { (plan_of rules.now).verbose ≡ false → echo.new ≡ echo.old }
     ensures within { progress.new.tried ≤ limits.now.directories }
     ensures counted { OnOk result (Counted progress.new) }
     ensures adds { OnOk result (AddsChildren path.old progress.old.pending progress.new.pending) }
-    ensures leaves { Leaves path.old (V.records voucher.old) (V.whole voucher.old) (V.records voucher.new) (V.whole voucher.new) }
-    ensures floor { OnOk result (FloorMoves path.old (V.floor voucher.old) (V.floor voucher.new)) }
+    ensures leaves { Leaves path.old (V.records voucher.old) (V.ordered voucher.old) (V.records voucher.new) (V.unbroken voucher.new) }
+    ensures ordered { IsTrue (V.ordered voucher.old) → IsTrue (V.ordered voucher.new) }
+    ensures unbroken { IsTrue (V.unbroken voucher.new) → IsTrue (V.unbroken voucher.old) }
     ensures sound { OnOk result (IsTrue (V.sound voucher.new)) }
     ensures voucher_kept { V.kept voucher.old voucher.new }
     ensures openings { T.openings tree.new + progress.old.tried ≤ T.openings tree.old + progress.new.tried }

@@ -1,7 +1,5 @@
 //! Old records that vouch for directories.
-ghost use Rattle.std.specs.Prelude.{◌≡◌, ◌↔◌, [], IfOk, OnOk, IfSome, MatchBool, IsTrue, IsOk, Ok, Err, Result, false, true, None};
-ghost use Rattle.std.specs.declared.cmp.Ordering.TheVariants.{Less};
-ghost use Rattle.path_order.specs.Order.{path_cmp};
+ghost use Rattle.std.specs.Prelude.{◌≡◌, ◌↔◌, [], IfOk, OnOk, IfSome, MatchBool, IsTrue, IsOk, Ok, Err, Result, false, true, Some};
 ghost use Rattle.tree_scan.specs.Records.{Record, Vouches, Fitting, Leaves, is_vouched};
 
 use path_order::{NameList, Stamp};
@@ -14,17 +12,17 @@ pub trait Voucher {
     ghost use Rattle.std.specs.declared.option.Option.{Option};
     ghost use Rattle.tree_scan.specs.Records.{Record};
 
-    /// The records that it can still answer from.
-    ghost records: { Self → List Record };
+    /// The records that it can still answer from, where they are known.
+    ghost records: { Self → Option (List Record) };
 
-    /// Whether it still has all of the records that it was opened over.
-    ghost whole: { Self → Bool };
+    /// Whether no read of its source has failed. Once lost, it never comes back.
+    ghost unbroken: { Self → Bool };
+
+    /// Whether what it can still answer from rises in path order, or it needs no order. Every call keeps it.
+    ghost ordered: { Self → Bool };
 
     /// Whether it and its source fit together.
     ghost sound: { Self → Bool };
-
-    /// The path that a directory has to come after to be asked for, if there is one.
-    ghost floor: { Self → Option (List ℕ) };
 
     /// How far a question about a directory may read.
     ghost reach: { Self → List ℕ → Self → Type 0 };
@@ -43,13 +41,13 @@ pub trait Voucher {
         into: &mut NameList,
     ) -> Result<bool, AllocError>
         requires sound { IsTrue (sound self.old) }
-        requires floor { IfSome (floor self.old) (λ floor. path_cmp floor dir.now ≡ Less) }
-        ensures vouches { IfOk result (λ vouched. MatchBool vouched (Vouches (records self.old) dir.now stamp device into.new) (into.new ≡ [])) }
-        ensures none { result ≡ Ok false → IsTrue (whole self.new) → is_vouched (records self.old) dir.now stamp device ≡ false }
+        ensures vouches { IfOk result (λ vouched. MatchBool vouched (IfSome (records self.old) (λ records. Vouches records dir.now stamp device into.new)) (into.new ≡ [])) }
+        ensures none { result ≡ Ok false → IsTrue (ordered self.old) → IsTrue (unbroken self.new) → IfSome (records self.old) (λ records. is_vouched records dir.now stamp device ≡ false) }
         ensures fitting { result ≡ Ok true → Fitting dir.now into.new }
-        ensures leaves { Leaves dir.now (records self.old) (whole self.old) (records self.new) (whole self.new) }
+        ensures leaves { Leaves dir.now (records self.old) (ordered self.old) (records self.new) (unbroken self.new) }
+        ensures ordered { IsTrue (ordered self.old) → IsTrue (ordered self.new) }
+        ensures unbroken { IsTrue (unbroken self.new) → IsTrue (unbroken self.old) }
         ensures sound { OnOk result (IsTrue (sound self.new)) }
-        ensures floor { OnOk result (IfSome (floor self.new) (λ floor. floor ≡ dir.now)) }
         ensures reach { reach self.old dir.now self.new }
         ensures kept { kept self.old self.new };
 
@@ -65,15 +63,15 @@ pub trait Voucher {
 pub struct NoVoucher;
 
 impl Voucher for NoVoucher {
-    ghost use Rattle.std.specs.Prelude.{[], true, None, ⊤};
+    ghost use Rattle.std.specs.Prelude.{[], true, Some, ⊤};
 
-    ghost records = { λ v. [] };
+    ghost records = { λ v. Some [] };
 
-    ghost whole = { λ v. true };
+    ghost unbroken = { λ v. true };
+
+    ghost ordered = { λ v. true };
 
     ghost sound = { λ v. true };
-
-    ghost floor = { λ v. None };
 
     ghost reach = { λ v dir w. ⊤ };
 
@@ -89,7 +87,7 @@ impl Voucher for NoVoucher {
     ) -> Result<bool, AllocError>
         ensures no { result ≡ Ok false }
         ensures empty { into.new ≡ [] }
-        ensures leaves { Leaves _dir.now [] true [] true }
+        ensures leaves { Leaves _dir.now (Some []) true (Some []) true }
     {
         into.clear();
         Ok(false)

@@ -1,17 +1,16 @@
 //! The steps of the walk.
-ghost use Rattle.std.specs.Prelude.{◌≡◌, ◌≤◌, ◌<◌, ◌+◌, ◌*◌, ◌⊎◌, ◌∷◌, [], length, OnOk, OnErr, IfErr, IfSome, IsTrue, IsErrOf, false};
-ghost use Rattle.std.specs.declared.cmp.Ordering.TheVariants.{Less};
+ghost use Rattle.std.specs.Prelude.{IsSome, ◌≡◌, ◌≤◌, ◌<◌, ◌+◌, ◌*◌, ◌⊎◌, ◌∷◌, [], length, OnOk, OnErr, IfErr, IsTrue, IsErrOf, false};
 ghost use Rattle.std.specs.FinMap.{get};
-ghost use Rattle.path_order.specs.Order.{path_cmp};
 ghost use Rattle.path_order.specs.Path.{is_normal};
 ghost use Rattle.loc_outside.specs.Causes.{Rose, raised};
 ghost use Rattle.loc_outside.specs.Trees.{Dirs, Dir};
 ghost use Rattle.tree_scan.specs.Blocks.{time_of};
 ghost use Rattle.tree_scan.specs.Plans.{plan_of};
-ghost use Rattle.tree_scan.specs.Records.{Leaves, Relied, is_vouched, unvouched};
+ghost use Rattle.tree_scan.specs.Records.{answers_all, known, Leaves, Relied, is_vouched, unvouched};
 ghost use Rattle.tree_scan.specs.Reach.{is_open, is_tried};
 ghost use Rattle.tree_scan.specs.Steps.{here, weight};
-ghost use Rattle.tree_scan.specs.Walks.{standing, Passes, Breaks, Counted, AddsChildren, FloorMoves, NamesMore, Narrow, is_whole_after, opens};
+ghost use Rattle.tree_scan.specs.Stops.{NamesMore, Narrow, taken};
+ghost use Rattle.tree_scan.specs.Walks.{standing, Passes, Breaks, Counted, AddsChildren, is_whole_after, opens};
 
 use crate::progress::Progress;
 use crate::visiting::visit;
@@ -38,29 +37,29 @@ pub(crate) fn come<T: Tree, V: Voucher, D: Sink, P: Sink>(
     requires tried { progress.old.tried ≤ limits.now.directories }
     requires counted { Counted progress.old }
     requires sound { IsTrue (V.sound voucher.old) }
-    requires floor { IfSome (V.floor voucher.old) (λ floor. path_cmp floor path.old ≡ Less) }
     requires normal { IsTrue (is_normal path.old) }
     ensures no_missing { IsErrOf result ScanFault.RootMissing → ⊥ }
     ensures done { OnOk result ((dirs : Dirs) → T.dirs tree.old ≡ Some dirs → (there : Dir) → get dirs path.old ≡ Some there → time ≡ time_of there.times → ((dir : Dir) → get dirs path.old ≡ Some dir → (plan_of rules.now).pruned path.old ≡ false → Relied (V.records voucher.old) ((plan_of rules.now).device_of path.old) path.old dir) → Passes dirs (plan_of rules.now) now path.old (standing (D.taken sink.old) (P.taken echo.old) progress.old) (standing (D.taken sink.new) (P.taken echo.new) progress.new)) }
-    ensures breaks { OnErr result ((dirs : Dirs) → T.dirs tree.old ≡ Some dirs → (there : Dir) → get dirs path.old ≡ Some there → time ≡ time_of there.times → ((dir : Dir) → get dirs path.old ≡ Some dir → (plan_of rules.now).pruned path.old ≡ false → Relied (V.records voucher.old) ((plan_of rules.now).device_of path.old) path.old dir) → Breaks dirs (plan_of rules.now) now path.old (D.taken sink.old) (D.taken sink.new) (P.taken echo.old) (P.taken echo.new)) }
+    ensures breaks { OnErr result ((dirs : Dirs) → T.dirs tree.old ≡ Some dirs → (there : Dir) → get dirs path.old ≡ Some there → time ≡ time_of there.times → ((dir : Dir) → get dirs path.old ≡ Some dir → (plan_of rules.now).pruned path.old ≡ false → Relied (V.records voucher.old) ((plan_of rules.now).device_of path.old) path.old dir) → Breaks dirs (plan_of rules.now) now path.old (taken (D.taken sink.old) (P.taken echo.old)) (taken (D.taken sink.new) (P.taken echo.new))) }
     ensures seen { (dirs : Dirs) → T.dirs tree.old ≡ Some dirs → (there : Dir) → get dirs path.old ≡ Some there → time ≡ time_of there.times → progress.new.tried ≤ progress.old.tried + length (here dirs (is_tried (plan_of rules.now).pruned) path.old) }
     ensures many { IsErrOf result ScanFault.TooManyDirectories → (dirs : Dirs) → T.dirs tree.old ≡ Some dirs → (there : Dir) → get dirs path.old ≡ Some there → time ≡ time_of there.times → limits.now.directories < progress.old.tried + length (here dirs (is_tried (plan_of rules.now).pruned) path.old) }
-    ensures kept_limit { OnOk result ((dirs : Dirs) → T.dirs tree.old ≡ Some dirs → (there : Dir) → get dirs path.old ≡ Some there → time ≡ time_of there.times → Narrow limits.now.names (unvouched (V.records voucher.old) (plan_of rules.now) (here dirs (is_open (plan_of rules.now).pruned) path.old))) }
-    ensures listed { IsErrOf result ScanFault.TooManyNames → (dirs : Dirs) → T.dirs tree.old ≡ Some dirs → (there : Dir) → get dirs path.old ≡ Some there → time ≡ time_of there.times → IsTrue (V.whole voucher.new) → is_vouched (V.records voucher.old) path.old (time_of there.times) ((plan_of rules.now).device_of path.old) ≡ false }
+    ensures kept_limit { OnOk result (IsSome (V.records voucher.old) → (dirs : Dirs) → T.dirs tree.old ≡ Some dirs → (there : Dir) → get dirs path.old ≡ Some there → time ≡ time_of there.times → Narrow limits.now.names (unvouched (known (V.records voucher.old)) (plan_of rules.now) (here dirs (is_open (plan_of rules.now).pruned) path.old))) }
+    ensures listed { IsErrOf result ScanFault.TooManyNames → (dirs : Dirs) → T.dirs tree.old ≡ Some dirs → (there : Dir) → get dirs path.old ≡ Some there → time ≡ time_of there.times → IsTrue (answers_all (V.records voucher.old) (V.ordered voucher.old) (V.unbroken voucher.new)) → is_vouched (known (V.records voucher.old)) path.old (time_of there.times) ((plan_of rules.now).device_of path.old) ≡ false }
     ensures unpruned { OnErr result ((plan_of rules.now).pruned path.old ≡ false) }
     ensures many_names { IsErrOf result ScanFault.TooManyNames → (dirs : Dirs) → T.dirs tree.old ≡ Some dirs → (there : Dir) → get dirs path.old ≡ Some there → time ≡ time_of there.times → NamesMore dirs (plan_of rules.now).pruned limits.now.names path.old }
     ensures more { OnOk result (length progress.new.pending + 16777216 * progress.old.tried ≤ length progress.old.pending + 16777216 * progress.new.tried) }
     ensures rises { OnOk result (progress.old.tried ≤ progress.new.tried) }
-    ensures opened { (dirs : Dirs) → T.dirs tree.old ≡ Some dirs → (there : Dir) → get dirs path.old ≡ Some there → time ≡ time_of there.times → IsTrue (V.whole voucher.new) → T.openings tree.new ≤ T.openings tree.old + opens (V.records voucher.old) dirs (plan_of rules.now) path.old }
-    ensures exact { OnOk result ((dirs : Dirs) → T.dirs tree.old ≡ Some dirs → (there : Dir) → get dirs path.old ≡ Some there → time ≡ time_of there.times → IsTrue (V.whole voucher.new) → T.openings tree.new ≡ raised (T.openings tree.old) (opens (V.records voucher.old) dirs (plan_of rules.now) path.old)) }
+    ensures opened { (dirs : Dirs) → T.dirs tree.old ≡ Some dirs → (there : Dir) → get dirs path.old ≡ Some there → time ≡ time_of there.times → IsTrue (answers_all (V.records voucher.old) (V.ordered voucher.old) (V.unbroken voucher.new)) → T.openings tree.new ≤ T.openings tree.old + opens (known (V.records voucher.old)) dirs (plan_of rules.now) path.old }
+    ensures exact { OnOk result ((dirs : Dirs) → T.dirs tree.old ≡ Some dirs → (there : Dir) → get dirs path.old ≡ Some there → time ≡ time_of there.times → IsTrue (answers_all (V.records voucher.old) (V.ordered voucher.old) (V.unbroken voucher.new)) → T.openings tree.new ≡ raised (T.openings tree.old) (opens (known (V.records voucher.old)) dirs (plan_of rules.now) path.old)) }
     ensures stats { T.stats tree.new ≡ T.stats tree.old }
     ensures whole { IfErr result (λ e. IsTrue (is_whole_after e) → (D.taken sink.new ≡ D.taken sink.old) × (P.taken echo.new ≡ P.taken echo.old)) }
     ensures quiet { (plan_of rules.now).verbose ≡ false → echo.new ≡ echo.old }
     ensures within { progress.new.tried ≤ limits.now.directories }
     ensures counted { OnOk result (Counted progress.new) }
     ensures adds { OnOk result (AddsChildren path.old progress.old.pending progress.new.pending) }
-    ensures leaves { Leaves path.old (V.records voucher.old) (V.whole voucher.old) (V.records voucher.new) (V.whole voucher.new) }
-    ensures floor { OnOk result (FloorMoves path.old (V.floor voucher.old) (V.floor voucher.new)) }
+    ensures leaves { Leaves path.old (V.records voucher.old) (V.ordered voucher.old) (V.records voucher.new) (V.unbroken voucher.new) }
+    ensures ordered { IsTrue (V.ordered voucher.old) → IsTrue (V.ordered voucher.new) }
+    ensures unbroken { IsTrue (V.unbroken voucher.new) → IsTrue (V.unbroken voucher.old) }
     ensures sound { OnOk result (IsTrue (V.sound voucher.new)) }
     ensures voucher_kept { V.kept voucher.old voucher.new }
     ensures openings { T.openings tree.new + progress.old.tried ≤ T.openings tree.old + progress.new.tried }
@@ -100,29 +99,29 @@ pub(crate) fn step<T: Tree, V: Voucher, D: Sink, P: Sink>(
     requires tried { progress.old.tried ≤ limits.now.directories }
     requires counted { Counted progress.old }
     requires sound { IsTrue (V.sound voucher.old) }
-    requires floor { IfSome (V.floor voucher.old) (λ floor. path_cmp floor path.old ≡ Less) }
     requires normal { IsTrue (is_normal path.old) }
     ensures no_missing { IsErrOf result ScanFault.RootMissing → ⊥ }
     ensures done { OnOk result ((dirs : Dirs) → T.dirs tree.old ≡ Some dirs → ((dir : Dir) → get dirs path.old ≡ Some dir → (plan_of rules.now).pruned path.old ≡ false → Relied (V.records voucher.old) ((plan_of rules.now).device_of path.old) path.old dir) → Passes dirs (plan_of rules.now) now path.old (standing (D.taken sink.old) (P.taken echo.old) progress.old) (standing (D.taken sink.new) (P.taken echo.new) progress.new)) }
-    ensures breaks { OnErr result ((dirs : Dirs) → T.dirs tree.old ≡ Some dirs → ((dir : Dir) → get dirs path.old ≡ Some dir → (plan_of rules.now).pruned path.old ≡ false → Relied (V.records voucher.old) ((plan_of rules.now).device_of path.old) path.old dir) → Breaks dirs (plan_of rules.now) now path.old (D.taken sink.old) (D.taken sink.new) (P.taken echo.old) (P.taken echo.new)) }
+    ensures breaks { OnErr result ((dirs : Dirs) → T.dirs tree.old ≡ Some dirs → ((dir : Dir) → get dirs path.old ≡ Some dir → (plan_of rules.now).pruned path.old ≡ false → Relied (V.records voucher.old) ((plan_of rules.now).device_of path.old) path.old dir) → Breaks dirs (plan_of rules.now) now path.old (taken (D.taken sink.old) (P.taken echo.old)) (taken (D.taken sink.new) (P.taken echo.new))) }
     ensures seen { (dirs : Dirs) → T.dirs tree.old ≡ Some dirs → progress.new.tried ≤ progress.old.tried + length (here dirs (is_tried (plan_of rules.now).pruned) path.old) }
     ensures many { IsErrOf result ScanFault.TooManyDirectories → (dirs : Dirs) → T.dirs tree.old ≡ Some dirs → limits.now.directories < progress.old.tried + length (here dirs (is_tried (plan_of rules.now).pruned) path.old) }
-    ensures kept_limit { OnOk result ((dirs : Dirs) → T.dirs tree.old ≡ Some dirs → Narrow limits.now.names (unvouched (V.records voucher.old) (plan_of rules.now) (here dirs (is_open (plan_of rules.now).pruned) path.old))) }
-    ensures listed { IsErrOf result ScanFault.TooManyNames → (dirs : Dirs) (dir : Dir) → T.dirs tree.old ≡ Some dirs → get dirs path.old ≡ Some dir → IsTrue (V.whole voucher.new) → is_vouched (V.records voucher.old) path.old (time_of dir.times) ((plan_of rules.now).device_of path.old) ≡ false }
+    ensures kept_limit { OnOk result (IsSome (V.records voucher.old) → (dirs : Dirs) → T.dirs tree.old ≡ Some dirs → Narrow limits.now.names (unvouched (known (V.records voucher.old)) (plan_of rules.now) (here dirs (is_open (plan_of rules.now).pruned) path.old))) }
+    ensures listed { IsErrOf result ScanFault.TooManyNames → (dirs : Dirs) (dir : Dir) → T.dirs tree.old ≡ Some dirs → get dirs path.old ≡ Some dir → IsTrue (answers_all (V.records voucher.old) (V.ordered voucher.old) (V.unbroken voucher.new)) → is_vouched (known (V.records voucher.old)) path.old (time_of dir.times) ((plan_of rules.now).device_of path.old) ≡ false }
     ensures unpruned { OnErr result ((plan_of rules.now).pruned path.old ≡ false) }
     ensures many_names { IsErrOf result ScanFault.TooManyNames → (dirs : Dirs) → T.dirs tree.old ≡ Some dirs → NamesMore dirs (plan_of rules.now).pruned limits.now.names path.old }
     ensures more { OnOk result (length progress.new.pending + 16777216 * progress.old.tried ≤ length progress.old.pending + 16777216 * progress.new.tried) }
     ensures rises { OnOk result (progress.old.tried ≤ progress.new.tried) }
-    ensures opened { (dirs : Dirs) → T.dirs tree.old ≡ Some dirs → IsTrue (V.whole voucher.new) → T.openings tree.new ≤ T.openings tree.old + opens (V.records voucher.old) dirs (plan_of rules.now) path.old }
-    ensures exact { OnOk result ((dirs : Dirs) → T.dirs tree.old ≡ Some dirs → IsTrue (V.whole voucher.new) → T.openings tree.new ≡ raised (T.openings tree.old) (opens (V.records voucher.old) dirs (plan_of rules.now) path.old)) }
+    ensures opened { (dirs : Dirs) → T.dirs tree.old ≡ Some dirs → IsTrue (answers_all (V.records voucher.old) (V.ordered voucher.old) (V.unbroken voucher.new)) → T.openings tree.new ≤ T.openings tree.old + opens (known (V.records voucher.old)) dirs (plan_of rules.now) path.old }
+    ensures exact { OnOk result ((dirs : Dirs) → T.dirs tree.old ≡ Some dirs → IsTrue (answers_all (V.records voucher.old) (V.ordered voucher.old) (V.unbroken voucher.new)) → T.openings tree.new ≡ raised (T.openings tree.old) (opens (known (V.records voucher.old)) dirs (plan_of rules.now) path.old)) }
     ensures stats { T.stats tree.new ≤ T.stats tree.old + weight (plan_of rules.now).pruned (T.priced tree.old) (path.old ∷ []) }
     ensures whole { IfErr result (λ e. IsTrue (is_whole_after e) → (D.taken sink.new ≡ D.taken sink.old) × (P.taken echo.new ≡ P.taken echo.old)) }
     ensures quiet { (plan_of rules.now).verbose ≡ false → echo.new ≡ echo.old }
     ensures within { progress.new.tried ≤ limits.now.directories }
     ensures counted { OnOk result (Counted progress.new) }
     ensures adds { OnOk result (AddsChildren path.old progress.old.pending progress.new.pending) }
-    ensures leaves { Leaves path.old (V.records voucher.old) (V.whole voucher.old) (V.records voucher.new) (V.whole voucher.new) }
-    ensures floor { OnOk result (FloorMoves path.old (V.floor voucher.old) (V.floor voucher.new)) }
+    ensures leaves { Leaves path.old (V.records voucher.old) (V.ordered voucher.old) (V.records voucher.new) (V.unbroken voucher.new) }
+    ensures ordered { IsTrue (V.ordered voucher.old) → IsTrue (V.ordered voucher.new) }
+    ensures unbroken { IsTrue (V.unbroken voucher.new) → IsTrue (V.unbroken voucher.old) }
     ensures sound { OnOk result (IsTrue (V.sound voucher.new)) }
     ensures voucher_kept { V.kept voucher.old voucher.new }
     ensures openings { T.openings tree.new + progress.old.tried ≤ T.openings tree.old + progress.new.tried }

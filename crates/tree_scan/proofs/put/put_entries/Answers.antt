@@ -3,7 +3,7 @@ use Rattle.std.specs.Io.KnownBytes.{Appends}
 use Rattle.loc_outside.specs.Outside.{AppendsPart}
 use Rattle.tree_scan.specs.Blocks.{entry_text, line}
 use Rattle.tree_scan.proofs.WrittenNames.{when_err, here_by, pieces_more, pieces_part, lines_more, lines_part}
-use Rattle.tree_scan.specs.Walks.{LinesFollow}
+use Rattle.tree_scan.specs.Stops.{LinesFollow, taken}
 use Rattle.tree_scan.proofs.Follows.{entries_follow, entry_piece}
 use Rattle.tree_scan.proofs.put.put_entries.Goals as goal
 
@@ -36,5 +36,5 @@ returns-in_err-put_name-clause-echo_err g c =
 pub returns-in_err-put_name-clause-follows : goal.returns-in_err-put_name-clause-follows
 returns-in_err-put_name-clause-follows g c =
     let here = here_by _ c.name.result.now c.kind.result c.name.ensures c.kind.ensures in
-    let hand = subst (λ (p : List ℕ). LinesFollow (entry_piece c.args.verbose p (c.name.result.now, c.kind.result) ∷ []) (g.D.Sink.taken c.loop-at.sink) (g.D.Sink.taken c.put_name.new.sink) (g.P.Sink.taken c.loop-at.echo) (g.P.Sink.taken c.put_name.new.echo)) c.loop-at.invariant.path c.in_err-put_name.ensures.follows in
+    let hand = subst (λ (p : List ℕ). LinesFollow (entry_piece c.args.verbose p (c.name.result.now, c.kind.result) ∷ []) (taken (g.D.Sink.taken c.loop-at.sink) (g.P.Sink.taken c.loop-at.echo)) (taken (g.D.Sink.taken c.put_name.new.sink) (g.P.Sink.taken c.put_name.new.echo))) c.loop-at.invariant.path c.in_err-put_name.ensures.follows in
     when_err _ _ (entries_follow c.args.verbose c.args.path.now _ _ _ _ _ _ c.args.names.now c.loop-at.at c.name.result.now c.kind.result here c.loop-at.invariant.taken c.loop-at.invariant.echoed hand)

@@ -4,12 +4,14 @@ use Rattle.std.specs.Io.KnownBytes.{Appends}
 use Rattle.loc_outside.specs.Outside.{AppendsPart}
 use Rattle.tree_scan.specs.Admitted.{admitted}
 use Rattle.loc_outside.specs.Trees.{Dir, Dirs}
-use Rattle.tree_scan.specs.Walks.{Breaks, LinesFollow}
+use Rattle.tree_scan.specs.Stops.{LinesFollow, taken}
+use Rattle.tree_scan.specs.Walks.{Breaks}
 use Rattle.tree_scan.specs.Blocks.{block_pieces, block_text, lines_of, time_of}
 use Rattle.tree_scan.specs.Plans.{plan_of}
-use Rattle.tree_scan.specs.Records.{Relied}
+use Rattle.tree_scan.specs.Records.{Relied, known}
 use Rattle.tree_scan.proofs.WrittenNames.{when_err}
 use Rattle.tree_scan.proofs.TreeAnswers.{seen_true, seen_false, pushed_short}
+use Rattle.tree_scan.proofs.Asking.{leaves_same}
 use Rattle.tree_scan.proofs.Visits.{passes_shown, passes_hidden, breaks_shown, breaks_none}
 use Rattle.tree_scan.proofs.visiting.visit.Goals as goal
 
@@ -36,7 +38,7 @@ returns-clause-shown g c = λ dirs dir told found time relied.
 pub returns-in_err-found-clause-breaks : goal.returns-in_err-found-clause-breaks
 returns-in_err-found-clause-breaks g c =
     let p : (dirs : Dirs) (dir : Dir) → g.T.Tree.dirs c.args.tree.now ≡ Some dirs → get dirs c.args.path.now ≡ Some dir → c.args.time ≡ time_of dir.times → Relied (g.V.Voucher.records c.args.voucher.now) ((plan_of c.args.rules.now).device_of c.args.path.now) c.args.path.now dir
-    → Breaks dirs (plan_of c.args.rules.now) c.args.now c.args.path.now (g.D.Sink.taken c.args.sink.now) (g.D.Sink.taken c.args.sink.now) (g.P.Sink.taken c.args.echo.now) (g.P.Sink.taken c.args.echo.now) =
+    → Breaks dirs (plan_of c.args.rules.now) c.args.now c.args.path.now (taken (g.D.Sink.taken c.args.sink.now) (g.P.Sink.taken c.args.echo.now)) (taken (g.D.Sink.taken c.args.sink.now) (g.P.Sink.taken c.args.echo.now)) =
     λ dirs dir told found time relied. breaks_none dirs (plan_of c.args.rules.now) c.args.now c.args.path.now _ _ _ _ refl refl in
     when_err _ _ p
 
@@ -53,7 +55,7 @@ returns-in_default-put_block-clause-breaks g c = λ dirs dir told found time rel
     (seen.0, seen.1 ∙ ap (λ (p : List ℕ). admitted p dir) c.bytes-2.ensures.value) time c.stamp_at-stamp.ensures c.written_device-written.ensures device
     (subst (λ (p : List ℕ). AppendsPart (g.D.Sink.taken c.args.sink.now) (g.D.Sink.taken c.put_block.new.sink) (block_text c.stamp_at-stamp.result c.written_device-written.result p c.find_names.new.names)) c.in-Ok.ensures.path c.in_default-put_block.ensures.err)
     (subst (λ (p : List ℕ). AppendsPart (g.P.Sink.taken c.args.echo.now) (g.P.Sink.taken c.put_block.new.echo) (lines_of c.args.rules.now.verbose p c.find_names.new.names)) c.in-Ok.ensures.path c.in_default-put_block.ensures.echo_err)
-    (subst (λ (p : List ℕ). LinesFollow (block_pieces c.args.rules.now.verbose c.stamp_at-stamp.result c.written_device-written.result p c.find_names.new.names) (g.D.Sink.taken c.args.sink.now) (g.D.Sink.taken c.put_block.new.sink) (g.P.Sink.taken c.args.echo.now) (g.P.Sink.taken c.put_block.new.echo)) c.in-Ok.ensures.path c.in_default-put_block.ensures.follows)
+    (subst (λ (p : List ℕ). LinesFollow (block_pieces c.args.rules.now.verbose c.stamp_at-stamp.result c.written_device-written.result p c.find_names.new.names) (taken (g.D.Sink.taken c.args.sink.now) (g.P.Sink.taken c.args.echo.now)) (taken (g.D.Sink.taken c.put_block.new.sink) (g.P.Sink.taken c.put_block.new.echo))) c.in-Ok.ensures.path c.in_default-put_block.ensures.follows)
 
 pub returns-clause-more : goal.returns-clause-more
 returns-clause-more g c = pushed_short c.args.path.now c.find_names.new.names c.args.progress.now.pending c.push_children.new.pending 16777216 c.in-Ok.ensures.ok (c.in_ok-found.ensures.fitting c.if-not-found.false).few
