@@ -4,7 +4,7 @@ use Rattle.std.proofs.Common.{◌≡◌, ℕ, ◌-◌, ◌≤◌, ◌^◌, ◌�
 use Rattle.std.specs.FinMap.{get}
 use Rattle.std.specs.Io.KnownBytes.{Appends}
 use Rattle.loc_outside.specs.Causes.{last_count}
-use Rattle.loc_outside.proofs.Parts.{part_all}
+use Rattle.loc_outside.proofs.PartTaken.{part_all}
 use Rattle.locate_engine.specs.Searched.{is_missing_or_read_fault, seen_in}
 use Rattle.locate_engine.specs.Statistics.{Counts, CountsFound, ends_reading, no_stats}
 use Rattle.locate_engine.specs.Sought.{Sought}
