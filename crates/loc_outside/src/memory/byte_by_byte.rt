@@ -1,5 +1,5 @@
 //! A file in memory that is read one byte at a time.
-ghost use Rattle.std.specs.Prelude.{◌≤◌, IfOk, None, ⊤, min};
+ghost use Rattle.std.specs.Prelude.{None, ⊤, min};
 ghost use Rattle.loc_outside.specs.Causes.{last_count, stays_below};
 ghost use Rattle.loc_outside.specs.Memory.{fault_count};
 
@@ -31,9 +31,7 @@ impl Source for ByteByByte {
 
     ghost faults_below = { λ s. stays_below s.files.failures.faults };
 
-    fn read(&mut self, into: &mut [u8]) -> Result<usize, Failed>
-        ensures one { IfOk result (λ count. count ≤ 1) }
-    {
+    fn read(&mut self, into: &mut [u8]) -> Result<usize, Failed> {
         self.files.read(&mut into[..1])
     }
 }
