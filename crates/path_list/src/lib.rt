@@ -2,5 +2,9 @@
 #![tactic(auto)]
 
 mod laws;
+mod mark;
+mod writer;
 
 pub use laws::{ending_is_first_fault, front_is_longest, paths_are_spelled, written_is_read_back};
+pub use mark::Mark;
+pub use writer::put_path;
