@@ -12,7 +12,7 @@ use Rattle.locate02_db.specs.Items.{locate02}
 use Rattle.bigram_db.specs.Items.{bigram}
 use Rattle.any_db.specs.declared.format.DatabaseFormat.{DatabaseFormat}
 use Rattle.any_db.specs.declared.format.DatabaseFormat.TheVariants as formats
-use Rattle.any_db.specs.Formats.{format_of, read_as, rest_by, rest_in, beginning_by, beginning, asks_gate, directory_of, HasHeads}
+use Rattle.any_db.specs.Formats.{format_of, read_as, to_come_by, to_come_in, preamble_by, preamble_in, asks_gate, directory_of, HasHeads}
 
 -- ---- each of some paths, and each two of them
 
@@ -144,33 +144,33 @@ no_gate len (Err s) e = absurd cc
 
 -- ---- the paths of a file
 
-directory_by : (d : DatabaseFormat) (w : Window) → asks_gate (beginning_by d w) ≡ true → (p q : PathAt) (before between behind : List PathAt)
-    → (rest_by d w).paths ≡ before ++ p ∷ (between ++ q ∷ behind) → p.heads ≡ q.heads → directory_of p ≡ directory_of q
+directory_by : (d : DatabaseFormat) (w : Window) → asks_gate (preamble_by d w) ≡ true → (p q : PathAt) (before between behind : List PathAt)
+    → (to_come_by d w).paths ≡ before ++ p ∷ (between ++ q ∷ behind) → p.heads ≡ q.heads → directory_of p ≡ directory_of q
 directory_by formats.Mlocate w gate p q before between behind e =
     (two_of InOneBlock _ before between behind p q e (paths_in_blocks (rest_of mlocate AtStart 0 w).items AtStart 0 0)).1
 directory_by formats.Locate02 w gate p q before between behind e = absurd (no_gate _ (locate02.item_at (not w.more) locate02.begin w.bytes) gate)
 directory_by formats.Bigram w gate p q before between behind e = absurd (no_gate _ (bigram.item_at (not w.more) bigram.begin w.bytes) gate)
 
-pub one_directory_a_block : (w : Window) → asks_gate (beginning w) ≡ true → (p q : PathAt) (before between behind : List PathAt)
-    → (rest_in w).paths ≡ before ++ p ∷ (between ++ q ∷ behind) → p.heads ≡ q.heads → directory_of p ≡ directory_of q
-unfolding rest_in beginning
+pub one_directory_a_block : (w : Window) → asks_gate (preamble_in w) ≡ true → (p q : PathAt) (before between behind : List PathAt)
+    → (to_come_in w).paths ≡ before ++ p ∷ (between ++ q ∷ behind) → p.heads ≡ q.heads → directory_of p ≡ directory_of q
+unfolding to_come_in preamble_in
 one_directory_a_block w gate p q before between behind e = directory_by (read_as w.bytes) w gate p q before between behind e
 
-rise_by : (d : DatabaseFormat) (w : Window) (p q : PathAt) (before between behind : List PathAt) → (rest_by d w).paths ≡ before ++ p ∷ (between ++ q ∷ behind) → p.heads ≤ q.heads
+rise_by : (d : DatabaseFormat) (w : Window) (p q : PathAt) (before between behind : List PathAt) → (to_come_by d w).paths ≡ before ++ p ∷ (between ++ q ∷ behind) → p.heads ≤ q.heads
 rise_by formats.Mlocate w p q before between behind e =
     (two_of InOneBlock _ before between behind p q e (paths_in_blocks (rest_of mlocate AtStart 0 w).items AtStart 0 0)).0
 rise_by formats.Locate02 w p q before between behind e = level _ before between behind p q e (no_heads locate02 (λ i. refl) (rest_of locate02 locate02.begin 0 w).items locate02.begin 0 0 refl)
 rise_by formats.Bigram w p q before between behind e = level _ before between behind p q e (no_heads bigram (λ i. refl) (rest_of bigram bigram.begin 0 w).items bigram.begin 0 0 refl)
 
-pub heads_rise : (w : Window) (p q : PathAt) (before between behind : List PathAt) → (rest_in w).paths ≡ before ++ p ∷ (between ++ q ∷ behind) → p.heads ≤ q.heads
-unfolding rest_in
+pub heads_rise : (w : Window) (p q : PathAt) (before between behind : List PathAt) → (to_come_in w).paths ≡ before ++ p ∷ (between ++ q ∷ behind) → p.heads ≤ q.heads
+unfolding to_come_in
 heads_rise w p q before between behind e = rise_by (read_as w.bytes) w p q before between behind e
 
-heads_by : (d : DatabaseFormat) (w : Window) → All (λ (p : PathAt). HasHeads d p.heads) (rest_by d w).paths
+heads_by : (d : DatabaseFormat) (w : Window) → All (λ (p : PathAt). HasHeads d p.heads) (to_come_by d w).paths
 heads_by formats.Mlocate w = paths_behind (rest_of mlocate AtStart 0 w).items AtStart 0 0
 heads_by formats.Locate02 w = no_heads locate02 (λ i. refl) (rest_of locate02 locate02.begin 0 w).items locate02.begin 0 0 refl
 heads_by formats.Bigram w = no_heads bigram (λ i. refl) (rest_of bigram bigram.begin 0 w).items bigram.begin 0 0 refl
 
-pub has_heads : (w : Window) (d : DatabaseFormat) → format_of w.bytes ≡ Some d → All (λ (p : PathAt). HasHeads d p.heads) (rest_in w).paths
-unfolding rest_in
-has_heads w d e = subst (λ (o : Option DatabaseFormat). All (λ (p : PathAt). HasHeads d p.heads) (rest_by (unwrap_or o formats.Bigram) w).paths) (sym e) (heads_by d w)
+pub has_heads : (w : Window) (d : DatabaseFormat) → format_of w.bytes ≡ Some d → All (λ (p : PathAt). HasHeads d p.heads) (to_come_in w).paths
+unfolding to_come_in
+has_heads w d e = subst (λ (o : Option DatabaseFormat). All (λ (p : PathAt). HasHeads d p.heads) (to_come_by (unwrap_or o formats.Bigram) w).paths) (sym e) (heads_by d w)

@@ -2,7 +2,8 @@
 use Rattle.std.proofs.Common.{◌≡◌, ℕ, ◌<◌, Bool, not, List, length, Some, None, Result, Ok, Err, refl, ap, ◌∙◌, length-append, arith}
 use Rattle.byte_feed.specs.declared.damage.Stop.{Stop}
 use Rattle.byte_feed.specs.Front.{Format, Window, on_ok}
-use Rattle.byte_feed.specs.Paths.{Ending, no_paths, as_paths, end_at}
+use Rattle.byte_feed.specs.Endings.{Ending, end_at}
+use Rattle.byte_feed.specs.Paths.{no_paths, as_paths}
 use Rattle.byte_feed.specs.Field.{magic_at}
 use Rattle.byte_feed.proofs.Fields.{seq}
 use Rattle.byte_feed.proofs.Takes.{magic_sized}
@@ -16,7 +17,7 @@ use Rattle.bigram_db.specs.Items.{table_at}
 use Rattle.bigram_db.proofs.EntryLaws.{table_takes, table_len}
 use Rattle.any_db.specs.declared.format.DatabaseFormat.{DatabaseFormat}
 use Rattle.any_db.specs.declared.format.DatabaseFormat.TheVariants.{Mlocate, Locate02, Bigram}
-use Rattle.any_db.specs.Formats.{items_in, rest_by, beginning_by}
+use Rattle.any_db.specs.Formats.{items_in, to_come_by, preamble_by}
 
 no_header : (bytes : List ℕ) (x : Header × List ℕ) → length bytes < 10 → header_at bytes ≡ Ok x → ⊥
 unfolding header_at
@@ -38,14 +39,14 @@ stopped (Ok x) P none go = absurd (none x refl)
 stopped (Err s) P none go = go s refl
 
 -- no path is in it
-pub few_rest : (d : DatabaseFormat) (w : Window) → length w.bytes < 10 → (P : Type 0) → ((e : Ending) → rest_by d w ≡ no_paths 0 0 e → P) → P
-few_rest d w few P go =
+pub few_to_come : (d : DatabaseFormat) (w : Window) → length w.bytes < 10 → (P : Type 0) → ((e : Ending) → to_come_by d w ≡ no_paths 0 0 e → P) → P
+few_to_come d w few P go =
     let f : Format = items_in d in
     stopped (f.item_at (not w.more) f.begin w.bytes) P (λ x e. no_first d (not w.more) w.bytes x few e) (λ s e.
     go (end_at f 0 f.begin w.bytes w.more) (ap (as_paths f f.begin 0 0) (rest_none f f.begin 0 w s e) ∙ nothing_path f f.begin 0 0 0 (end_at f 0 f.begin w.bytes w.more)))
 
 -- nor a whole first item
-pub few_first : (d : DatabaseFormat) (w : Window) → length w.bytes < 10 → beginning_by d w ≡ None
+pub few_first : (d : DatabaseFormat) (w : Window) → length w.bytes < 10 → preamble_by d w ≡ None
 few_first d w few =
     let f : Format = items_in d in
     stopped (f.item_at (not w.more) f.begin w.bytes) _ (λ x e. no_first d (not w.more) w.bytes x few e) (λ s e. ap (on_ok None (λ (x : f.Item × List ℕ). Some (length (f.spell x.0), f.gate_of x.0))) e)

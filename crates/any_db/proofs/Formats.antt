@@ -7,7 +7,8 @@ use Rattle.std.proofs.lemmas.List.{take-take}
 use Rattle.byte_feed.specs.declared.damage.DbFault.TheVariants as faults
 use Rattle.byte_feed.specs.declared.damage.Stop.TheVariants.{NotADatabase}
 use Rattle.byte_feed.specs.Front.{Window, limit, readable}
-use Rattle.byte_feed.specs.Paths.{no_paths, as_paths, end_at}
+use Rattle.byte_feed.specs.Endings.{end_at}
+use Rattle.byte_feed.specs.Paths.{no_paths, as_paths}
 use Rattle.byte_feed.proofs.Rests.{nothing_path}
 use Rattle.byte_feed.proofs.Steps.{rest_none}
 use Rattle.mlocate_db.specs.Items.{Header, HeaderItem, spell, magic as mlocate_magic}
@@ -21,7 +22,7 @@ use Rattle.bigram_db.proofs.TableLaws.{chosen_table, chosen_unused}
 use Rattle.bigram_db.proofs.Written.{encoded_can}
 use Rattle.any_db.specs.declared.format.DatabaseFormat.{DatabaseFormat}
 use Rattle.any_db.specs.declared.format.DatabaseFormat.TheVariants.{Mlocate, Locate02, Bigram}
-use Rattle.any_db.specs.Formats.{format_of, rest_in, rest_by}
+use Rattle.any_db.specs.Formats.{format_of, to_come_in, to_come_by}
 
 -- ---- the first bytes
 
@@ -80,7 +81,7 @@ bigram_format paths =
 
 -- ---- what is no database
 
-no_table : (w : Window) → is_bigram w.bytes ≡ false → rest_by Bigram w ≡ no_paths 0 0 (Err faults.NotADatabase)
+no_table : (w : Window) → is_bigram w.bytes ≡ false → to_come_by Bigram w ≡ no_paths 0 0 (Err faults.NotADatabase)
 unfolding table_at
 no_table w none =
     let stop : item_at (not w.more) AtStart w.bytes ≡ Err NotADatabase = rw none refl in
@@ -97,6 +98,6 @@ no_bigram : (bytes : List ℕ) → format_of bytes ≡ None → is_bigram bytes 
 unfolding format_of
 no_bigram bytes e = none_by (starts_with nat_eq bytes mlocate_magic) (starts_with nat_eq bytes locate02_magic) (is_bigram bytes) e
 
-pub no_format_ends : (w : Window) → format_of w.bytes ≡ None → rest_in w ≡ no_paths 0 0 (Err faults.NotADatabase)
-unfolding rest_in
-no_format_ends w none = ap (λ (o : Option DatabaseFormat). rest_by (unwrap_or o Bigram) w) none ∙ no_table w (no_bigram w.bytes none)
+pub no_format_ends : (w : Window) → format_of w.bytes ≡ None → to_come_in w ≡ no_paths 0 0 (Err faults.NotADatabase)
+unfolding to_come_in
+no_format_ends w none = ap (λ (o : Option DatabaseFormat). to_come_by (unwrap_or o Bigram) w) none ∙ no_table w (no_bigram w.bytes none)

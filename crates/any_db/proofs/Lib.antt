@@ -1,8 +1,8 @@
-pub mod Begun
-pub mod Blocks
 pub mod FewBytes
-pub mod Formats
+pub mod FormatAhead
+pub mod Preambles
 pub mod Named
-pub mod NoDatabase
 pub mod Refusals
-pub mod Told
+pub mod NoDatabase
+pub mod Formats
+pub mod Blocks

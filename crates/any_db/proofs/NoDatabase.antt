@@ -12,7 +12,7 @@ use Rattle.bigram_db.specs.Pairs.{is_bigram}
 use Rattle.bigram_db.specs.Items as bigram
 use Rattle.any_db.specs.declared.format.DatabaseFormat.{DatabaseFormat}
 use Rattle.any_db.specs.declared.format.DatabaseFormat.TheVariants.{Mlocate, Locate02, Bigram}
-use Rattle.any_db.specs.Formats.{format_of, read_as, rest_in, rest_by}
+use Rattle.any_db.specs.Formats.{format_of, read_as, to_come_in, to_come_by}
 use Rattle.any_db.proofs.Named.{bigram_or_none}
 use Rattle.any_db.proofs.Refusals.{never_bind, never_head, never_entry, never_after, never_behind, no_mlocate, no_locate02, no_table, no_first}
 
@@ -57,7 +57,7 @@ locate02_first last bytes x e = tt
 locate02_keeps : (s : locate02.State) (i : locate02.Item) → Locate02Begun s → Locate02Begun (locate02.after s i)
 unfolding Locate02Begun
 locate02_keeps locate02.AtStart i b = absurd b
-locate02_keeps (locate02.After path old) locate02.BeginItem b = tt
+locate02_keeps (locate02.After path old) locate02.PreambleItem b = tt
 locate02_keeps (locate02.After path old) (locate02.PathItem change remainder) b = tt
 
 locate02_never : (last : Bool) (s : locate02.State) (bytes : List ℕ) → Locate02Begun s → locate02.item_at s bytes ≡ Err NotADatabase → ⊥
@@ -100,7 +100,7 @@ read_locate02 false true c e f = absurd cc
 read_locate02 false false true e f = absurd cc
 read_locate02 false false false e f = absurd cc
 
-only_none : (d : DatabaseFormat) (w : Window) → read_as w.bytes ≡ d → (rest_by d w).ending ≡ Err faults.NotADatabase → format_of w.bytes ≡ None
+only_none : (d : DatabaseFormat) (w : Window) → read_as w.bytes ≡ d → (to_come_by d w).ending ≡ Err faults.NotADatabase → format_of w.bytes ≡ None
 unfolding format_of
 only_none Mlocate w is e =
     absurd (read_mlocate (starts_with nat_eq w.bytes mlocate.magic) (starts_with nat_eq w.bytes locate02.magic) (is_bigram w.bytes) is
@@ -111,6 +111,6 @@ only_none Locate02 w is e =
 only_none Bigram w is e =
     bigram_or_none w.bytes is ∙ ap (λ (t : Bool). cond t (Some Bigram) None) (no_table (not w.more) w.bytes (no_first bigram.bigram BigramBegun bigram_first bigram_keeps bigram_never 0 w e))
 
-pub refused_has_none : (w : Window) → (rest_in w).ending ≡ Err faults.NotADatabase → format_of w.bytes ≡ None
-unfolding rest_in
+pub refused_has_none : (w : Window) → (to_come_in w).ending ≡ Err faults.NotADatabase → format_of w.bytes ≡ None
+unfolding to_come_in
 refused_has_none w e = only_none (read_as w.bytes) w refl e

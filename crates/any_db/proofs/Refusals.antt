@@ -10,7 +10,8 @@ use Rattle.byte_feed.specs.declared.damage.Stop.TheVariants.{NotADatabase, Broke
 use Rattle.byte_feed.specs.Field.{◌>>=◌, byte_at, bytes_at, number_at, ended_at, text_at, demand, magic_at, max_path, is_zero}
 use Rattle.byte_feed.specs.Front.{Format, Window, items_within, items_of, on_ok, left_by, spelling}
 use Rattle.byte_feed.specs.Stream.{is_cut}
-use Rattle.byte_feed.specs.Paths.{Ending, end_at, end_by, rest_of}
+use Rattle.byte_feed.specs.Endings.{Ending, end_at, end_by}
+use Rattle.byte_feed.specs.Paths.{rest_of}
 use Rattle.mlocate_db.specs.Items as mlocate
 use Rattle.locate02_db.specs.Items as locate02
 use Rattle.bigram_db.specs.Pairs.{is_bigram, is_used, pair_at}

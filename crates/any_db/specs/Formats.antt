@@ -2,7 +2,7 @@
 use Rattle.std.specs.Prelude.{◌≡◌, ℕ, ◌<◌, Bool, true, false, List, take, Option, Some, None, unwrap_or, nat_eq, if◌then◌else◌}
 use Rattle.std.specs.List.{starts_with}
 use Rattle.byte_feed.specs.Front.{Format, Window, limit, readable}
-use Rattle.byte_feed.specs.Paths.{PathAt, ToCome, to_come, beginning_of}
+use Rattle.byte_feed.specs.Paths.{PathAt, ToCome, to_come, preamble_of}
 use Rattle.mlocate_db.specs.Items.{mlocate, magic as mlocate_magic}
 use Rattle.locate02_db.specs.Items.{locate02, magic as locate02_magic}
 use Rattle.bigram_db.specs.Pairs.{is_bigram}
@@ -30,28 +30,28 @@ items_in Locate02 = locate02
 items_in Bigram = bigram
 
 -- all that a file gives, read in this format, and its first item
-abbrev pub rest_by : DatabaseFormat → Window → ToCome
-rest_by format w = to_come (items_in format) (items_in format).begin 0 0 w
+abbrev pub to_come_by : DatabaseFormat → Window → ToCome
+to_come_by format w = to_come (items_in format) (items_in format).begin 0 0 w
 
-abbrev pub beginning_by : DatabaseFormat → Window → Option (ℕ × Bool)
-beginning_by format w = beginning_of (items_in format) w
+abbrev pub preamble_by : DatabaseFormat → Window → Option (ℕ × Bool)
+preamble_by format w = preamble_of (items_in format) w
 
 -- the same in the format that the file is read in
-unfoldable pub rest_in : Window → ToCome
-rest_in w = rest_by (read_as w.bytes) w
+unfoldable pub to_come_in : Window → ToCome
+to_come_in w = to_come_by (read_as w.bytes) w
 
-unfoldable pub beginning : Window → Option (ℕ × Bool)
-beginning w = beginning_by (read_as w.bytes) w
+unfoldable pub preamble_in : Window → Option (ℕ × Bool)
+preamble_in w = preamble_by (read_as w.bytes) w
 
 -- ---- a whole file
 
 -- all that a file gives
 abbrev pub contents : List ℕ → ToCome
-contents file = rest_in (readable file)
+contents file = to_come_in (readable file)
 
 -- the same of its first n bytes alone, which do not end it
 abbrev pub contents_of_part : ℕ → List ℕ → ToCome
-contents_of_part n file = rest_in (record { bytes = take limit (take n file); more = true })
+contents_of_part n file = to_come_in (record { bytes = take limit (take n file); more = true })
 
 -- whether a first item that is whole asks for visible paths alone
 abbrev pub asks_gate : Option (ℕ × Bool) → Bool
@@ -60,7 +60,7 @@ asks_gate (Some first) = first.1
 
 -- whether a file's header is whole and asks for visible paths alone, as only those of mlocate can
 abbrev pub is_gated : List ℕ → Bool
-is_gated file = asks_gate (beginning (readable file))
+is_gated file = asks_gate (preamble_in (readable file))
 
 -- ---- the paths of a directory
 

@@ -6,7 +6,7 @@ use Rattle.byte_feed.specs.Paths.{PathAt, ToCome}
 use Rattle.mlocate_db.specs.Reader.{is_live as live_mlocate, paths_left as left_mlocate, path_found as found_mlocate}
 use Rattle.locate02_db.specs.Reader.{is_live as live_locate02, paths_left as left_locate02, path_found as found_locate02}
 use Rattle.bigram_db.specs.Reader.{is_live as live_bigram, paths_left as left_bigram, path_found as found_bigram}
-use Rattle.any_db.specs.Formats.{format_of, read_as, rest_in}
+use Rattle.any_db.specs.Formats.{format_of, read_as, to_come_in}
 use Rattle.any_db.specs.declared.format.DatabaseFormat.{DatabaseFormat}
 use Rattle.any_db.specs.declared.format.DatabaseFormat.TheVariants as formats
 use Rattle.any_db.specs.declared.any_reader.AnyReader.{AnyReader}
@@ -56,8 +56,8 @@ feed_of (Bigram r) = r.feed
 
 -- the paths that are left, and how the file ends after them; nobody asks it of a reader that failed
 abbrev pub paths_left : Stage → Window → ToCome
-paths_left Fresh w = rest_in w
-paths_left (Failed feed) w = rest_in w
+paths_left Fresh w = to_come_in w
+paths_left (Failed feed) w = to_come_in w
 paths_left (Mlocate r) w = left_mlocate r w
 paths_left (Locate02 r) w = left_locate02 r w
 paths_left (Bigram r) w = left_bigram r w

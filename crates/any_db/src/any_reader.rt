@@ -2,8 +2,10 @@
 ghost use Rattle.std.specs.Prelude.{◌≡◌, ◌+◌, ◌≤◌, ◌<◌, ◌^◌, ◌∷◌, [], length, true, false, Some, Ok, Err, OnOk, OnErr, IfSome, IsSome, IfErr, IsTrue, IsErrOf, is_ok};
 ghost use Rattle.loc_outside.specs.Causes.{Rose};
 ghost use Rattle.byte_feed.specs.Feed.{Draws, reach};
-ghost use Rattle.byte_feed.specs.Paths.{BeginsKnown, MovedKnown, EndsKnown, UnbegunKnown, StopsAt, IsPath, after_paths, no_paths, is_found};
-ghost use Rattle.any_db.specs.Formats.{beginning, beginning_by, rest_by};
+ghost use Rattle.byte_feed.specs.Endings.{StopsAt};
+ghost use Rattle.byte_feed.specs.Paths.{IsPath, after_paths, no_paths};
+ghost use Rattle.byte_feed.specs.Calls.{PreambleKnown, MovedKnown, EndsKnown, NoPreambleKnown, is_found};
+ghost use Rattle.any_db.specs.Formats.{preamble_in, preamble_by, to_come_by};
 ghost use Rattle.any_db.specs.Reader.{FormatKnown, known_after, fresh, is_fresh, format_known, feed_of, paths_left, is_live, is_gated, path_found, stored_in, heads_in};
 
 use crate::format::{DatabaseFormat, look_format};
@@ -68,10 +70,10 @@ impl AnyReader {
     ) -> Result<(), DbFault>
         requires { feed.offset ≡ 0 }
         ensures told { format_known self.new.stage ≡ known_after (is_ok result) format }
-        ensures begun { OnOk result (BeginsKnown (beginning_by format) feed (S.left src.old) (stored_in self.new.stage) (is_gated self.new.stage)) }
-        ensures ok { OnOk result (MovedKnown (rest_by format) (paths_left self.new.stage) (λ t. t) feed (S.left src.old) (feed_of self.new.stage) (S.left src.new)) }
-        ensures refused { IfErr result (λ e. UnbegunKnown (beginning_by format) feed (S.left src.old) (S.left src.new) e) }
-        ensures err { IfErr result (λ e. EndsKnown (rest_by format) (no_paths 0 0) feed (S.left src.old) (S.left src.new) (Err e)) }
+        ensures begun { OnOk result (PreambleKnown (preamble_by format) feed (S.left src.old) (stored_in self.new.stage) (is_gated self.new.stage)) }
+        ensures ok { OnOk result (MovedKnown (to_come_by format) (paths_left self.new.stage) (λ t. t) feed (S.left src.old) (feed_of self.new.stage) (S.left src.new)) }
+        ensures refused { IfErr result (λ e. NoPreambleKnown (preamble_by format) feed (S.left src.old) (S.left src.new) e) }
+        ensures err { IfErr result (λ e. EndsKnown (to_come_by format) (no_paths 0 0) feed (S.left src.old) (S.left src.new) (Err e)) }
         ensures stops { IfErr result (λ e. StopsAt (feed_of self.new.stage) 0 (Err e)) }
         ensures grows { OnOk result (0 < stored_in self.new.stage) }
         ensures stays { OnErr result (stored_in self.new.stage ≡ 0) }
@@ -119,7 +121,7 @@ impl AnyReader {
 impl PathStream for AnyReader {
     ghost feed = { λ r. feed_of r.stage };
 
-    ghost beginning = { λ r. beginning };
+    ghost preamble = { λ r. preamble_in };
 
     ghost to_come = { λ r. paths_left r.stage };
 
@@ -142,9 +144,9 @@ impl PathStream for AnyReader {
         ensures told { (IsErrOf result DbFault.ReadFault → ⊥) → FormatKnown (feed_of self.old.stage) (S.left src.old) (format_known self.new.stage) }
         ensures right { IfSome (format_known self.new.stage) (λ d. FormatKnown (feed_of self.old.stage) (S.left src.old) (Some d)) }
         ensures known { OnOk result (IsSome (format_known self.new.stage)) }
-        ensures begun { OnOk result (BeginsKnown beginning (feed_of self.old.stage) (S.left src.old) (stored_in self.new.stage) (is_gated self.new.stage)) }
+        ensures begun { OnOk result (PreambleKnown preamble_in (feed_of self.old.stage) (S.left src.old) (stored_in self.new.stage) (is_gated self.new.stage)) }
         ensures ok { OnOk result (MovedKnown (paths_left self.old.stage) (paths_left self.new.stage) (λ t. t) (feed_of self.old.stage) (S.left src.old) (feed_of self.new.stage) (S.left src.new)) }
-        ensures refused { IfErr result (λ e. UnbegunKnown beginning (feed_of self.old.stage) (S.left src.old) (S.left src.new) e) }
+        ensures refused { IfErr result (λ e. NoPreambleKnown preamble_in (feed_of self.old.stage) (S.left src.old) (S.left src.new) e) }
         ensures err { IfErr result (λ e. EndsKnown (paths_left self.old.stage) (no_paths 0 0) (feed_of self.old.stage) (S.left src.old) (S.left src.new) (Err e)) }
         ensures stops { IfErr result (λ e. StopsAt (feed_of self.new.stage) 0 (Err e)) }
         ensures grows { OnOk result (0 < stored_in self.new.stage) }

@@ -2,9 +2,10 @@
 ghost use Rattle.std.specs.Prelude.{◌≡◌, ◌≤◌, ◌^◌, length, Ok, Err, OnOk, OnErr, IfOk};
 ghost use Rattle.loc_outside.specs.Causes.{Rose};
 ghost use Rattle.byte_feed.specs.Feed.{Draws, empty_at, reach};
-ghost use Rattle.byte_feed.specs.Paths.{MovedKnown, EndsKnown, UnbegunKnown, no_paths};
+ghost use Rattle.byte_feed.specs.Paths.{no_paths};
+ghost use Rattle.byte_feed.specs.Calls.{MovedKnown, EndsKnown, NoPreambleKnown};
 ghost use Rattle.byte_feed.specs.declared.damage.DbFault.TheVariants.{ReadFault};
-ghost use Rattle.any_db.specs.Formats.{beginning, beginning_by, read_as, rest_by, rest_in};
+ghost use Rattle.any_db.specs.Formats.{preamble_in, preamble_by, read_as, to_come_by, to_come_in};
 ghost use Rattle.any_db.specs.Reader.{ReadAsKnown};
 
 use byte_feed::Feed;
@@ -40,10 +41,10 @@ fn read_by(bytes: &[u8]) -> DatabaseFormat
 pub(crate) fn look_format<S: Source>(feed: &mut Feed, src: &mut S) -> Result<DatabaseFormat, Failed>
     requires { feed.old ≡ empty_at 0 }
     ensures told { IfOk result (λ d. ReadAsKnown feed.old (S.left src.old) d) }
-    ensures rest { IfOk result (λ d. MovedKnown rest_in (rest_by d) (λ t. t) feed.old (S.left src.old) feed.new (S.left src.new)) }
-    ensures first { IfOk result (λ d. MovedKnown beginning (beginning_by d) (λ b. b) feed.old (S.left src.old) feed.new (S.left src.new)) }
-    ensures none { OnErr result (EndsKnown rest_in (no_paths 0 0) feed.old (S.left src.old) (S.left src.new) (Err ReadFault)) }
-    ensures unbegun { OnErr result (UnbegunKnown beginning feed.old (S.left src.old) (S.left src.new) ReadFault) }
+    ensures rest { IfOk result (λ d. MovedKnown to_come_in (to_come_by d) (λ t. t) feed.old (S.left src.old) feed.new (S.left src.new)) }
+    ensures first { IfOk result (λ d. MovedKnown preamble_in (preamble_by d) (λ b. b) feed.old (S.left src.old) feed.new (S.left src.new)) }
+    ensures none { OnErr result (EndsKnown to_come_in (no_paths 0 0) feed.old (S.left src.old) (S.left src.new) (Err ReadFault)) }
+    ensures unbegun { OnErr result (NoPreambleKnown preamble_in feed.old (S.left src.old) (S.left src.new) ReadFault) }
     ensures offset { feed.new.offset ≡ 0 }
     ensures drawn { Draws feed.old feed.new (S.given src.old) (S.given src.new) (S.left src.old) (S.left src.new) }
     ensures held { length feed.new.held ≤ 4096 }

@@ -8,25 +8,25 @@ ghost use Rattle.locate02_db.specs.Spelled.{encode02};
 ghost use Rattle.bigram_db.specs.Chosen.{encode_bigram};
 ghost use Rattle.any_db.specs.declared.format.DatabaseFormat.{DatabaseFormat};
 ghost use Rattle.any_db.specs.declared.format.DatabaseFormat.TheVariants.{Mlocate, Locate02, Bigram};
-ghost use Rattle.any_db.specs.Formats.{HasHeads, asks_gate, beginning, directory_of, format_of, rest_in};
+ghost use Rattle.any_db.specs.Formats.{HasHeads, asks_gate, preamble_in, directory_of, format_of, to_come_in};
 
 /// Where the paths are shown only to those who may list their directories, paths before which as many directory heads
 /// stand have the same directory.
 pub fn one_directory_a_block()
-    ensures { (w : Window) → asks_gate (beginning w) ≡ true → (p q : PathAt) (before between behind : List PathAt) → (rest_in w).paths ≡ before ++ p ∷ (between ++ q ∷ behind) → p.heads ≡ q.heads → directory_of p ≡ directory_of q }
+    ensures { (w : Window) → asks_gate (preamble_in w) ≡ true → (p q : PathAt) (before between behind : List PathAt) → (to_come_in w).paths ≡ before ++ p ∷ (between ++ q ∷ behind) → p.heads ≡ q.heads → directory_of p ≡ directory_of q }
 {}
 
 /// The number of directory heads before a path never falls from one path to a later one. It is 1 at least in a database
 /// of mlocate, and 0 in one of another format.
 pub fn heads_rise()
-    ensures rise { (w : Window) (p q : PathAt) (before between behind : List PathAt) → (rest_in w).paths ≡ before ++ p ∷ (between ++ q ∷ behind) → p.heads ≤ q.heads }
-    ensures heads { (w : Window) (format : DatabaseFormat) → format_of w.bytes ≡ Some format → All (λ p. HasHeads format p.heads) (rest_in w).paths }
+    ensures rise { (w : Window) (p q : PathAt) (before between behind : List PathAt) → (to_come_in w).paths ≡ before ++ p ∷ (between ++ q ∷ behind) → p.heads ≤ q.heads }
+    ensures heads { (w : Window) (format : DatabaseFormat) → format_of w.bytes ≡ Some format → All (λ p. HasHeads format p.heads) (to_come_in w).paths }
 {}
 
 /// A file of no format gives no path and ends as no database, and no other file ends so.
 pub fn no_format_is_no_database()
-    ensures none { (w : Window) → format_of w.bytes ≡ None → rest_in w ≡ no_paths 0 0 (Err NotADatabase) }
-    ensures only { (w : Window) → (rest_in w).ending ≡ Err NotADatabase → format_of w.bytes ≡ None }
+    ensures none { (w : Window) → format_of w.bytes ≡ None → to_come_in w ≡ no_paths 0 0 (Err NotADatabase) }
+    ensures only { (w : Window) → (to_come_in w).ending ≡ Err NotADatabase → format_of w.bytes ≡ None }
 {}
 
 /// The first 256 bytes of a file decide its format, so it makes no difference how many more may be read.

@@ -6,7 +6,8 @@ use Rattle.byte_feed.specs.declared.damage.DamageCause.{DamageCause}
 use Rattle.byte_feed.specs.declared.damage.DamageCause.TheVariants.{Cut, EmptyPath, BadCount, NoCount, EmptyPair, BadWord, ZeroChar}
 use Rattle.byte_feed.specs.declared.damage.DbFault.TheVariants as faults
 use Rattle.byte_feed.specs.Front.{items_within, items_of}
-use Rattle.byte_feed.specs.Paths.{Ending, PathAt, rest_of, contents}
+use Rattle.byte_feed.specs.Endings.{Ending}
+use Rattle.byte_feed.specs.Paths.{PathAt, rest_of, contents}
 use Rattle.bigram_db.specs.Items.{table_at, count_at, word_value, unit_fitting, units_within, units_at, entry_at, bigram}
 use Rattle.bigram_db.specs.Spelled.{encode_with}
 

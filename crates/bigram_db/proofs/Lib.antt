@@ -1,19 +1,19 @@
-mod DamagedExamples
-pub mod EntryLaws
-pub mod EntryReads
-pub mod Grid
-pub mod InOrder
-pub mod ItemSteady
-pub mod Padded
-pub mod PairCounting
 pub mod PairPlaces
-pub mod PathCounting
-pub mod Pieces
-pub mod Ranked
-pub mod ReaderSteps
-pub mod TableLaws
-pub mod Taken
 pub mod UnitLaws
+pub mod EntryLaws
+pub mod ItemSteady
 pub mod UnitPushes
+pub mod EntryReads
+pub mod ReaderSteps
+pub mod PathPieces
 pub mod Words
 pub mod Written
+pub mod PairCounting
+pub mod InOrder
+pub mod Grid
+pub mod Ranked
+pub mod Padded
+pub mod Taken
+pub mod TableLaws
+pub mod PathCounting
+mod DamagedExamples

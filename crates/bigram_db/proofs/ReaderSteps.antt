@@ -14,11 +14,13 @@ use Rattle.byte_feed.specs.Field.{◌>>=◌, byte_at}
 use Rattle.byte_feed.specs.Front.{limit, Window}
 use Rattle.byte_feed.specs.Feed.{FeedState, file, window, so_far, TookKnown, IsAllAhead}
 use Rattle.byte_feed.specs.Stream.{is_cut, Fails, Wanting, StreamGives}
-use Rattle.byte_feed.specs.Paths.{Ending, ToCome, rest_of, after_item, no_items, end_at, end_by, damage_at, fault_of, fault_at, to_come, after_paths, no_paths, Moved, MovedKnown, Broke, EndsBy, EndsKnown, BeginsKnown, UnbegunKnown, beginning_of, before_base}
+use Rattle.byte_feed.specs.Endings.{Ending, end_at, end_by, damage_at, fault_of, fault_at}
+use Rattle.byte_feed.specs.Paths.{ToCome, rest_of, after_item, no_items, to_come, after_paths, no_paths, preamble_of, before_base}
+use Rattle.byte_feed.specs.Calls.{Moved, MovedKnown, Broke, EndsBy, EndsKnown, PreambleKnown, NoPreambleKnown}
 use Rattle.byte_feed.proofs.TakenOff.{file_open, file_shut, window_took, more_took, so_far_took}
 use Rattle.byte_feed.proofs.Wants.{wants_byte, all_ahead, looked_fault}
 use Rattle.byte_feed.proofs.Steps.{lifted, NotEnd, step_ok, step_err, rest_more, rest_none, item_len, paths_by_items}
-use Rattle.byte_feed.proofs.Beginnings.{beginning_some, unbegun, ends_paths}
+use Rattle.byte_feed.proofs.Preambles.{preamble_some, no_preamble, ends_paths}
 use Rattle.bigram_db.specs.declared.reader.Stage.{Stage}
 use Rattle.bigram_db.specs.declared.reader.Stage.TheVariants as stages
 use Rattle.bigram_db.specs.Items.{Item, TableItem, PathItem, State, AtStart, After, text_of, ends, path_with, shared_by, after, table_at, count_at, entry_at, item_at, bigram}
@@ -47,14 +49,14 @@ table_moved : (f f' : FeedState) (l l' : Option (List ℕ)) (table : List ℕ) �
     → MovedKnown (rest_of bigram AtStart f.offset) (rest_of bigram (After table [] 0) f'.offset) (after_item bigram (TableItem table)) f l f' l'
 table_moved f f' l l' table g = step_ok bigram bigram_shrinks AtStart here TableItem table_at table_lifted f f' l l' table g
 
-table_begun : (f f' : FeedState) (l l' : Option (List ℕ)) (table : List ℕ) → f.offset ≡ 0 → MovedKnown (rest_of bigram AtStart f.offset) (rest_of bigram (After table [] 0) f'.offset) (after_item bigram (TableItem table)) f l f' l'
-    → BeginsKnown (beginning_of bigram) f l f'.offset false
-table_begun f f' None l' table none m = tt
-table_begun f f' (Some a) None table none m = absurd m
-table_begun f f' (Some a) (Some b) table none m =
+table_whole : (f f' : FeedState) (l l' : Option (List ℕ)) (table : List ℕ) → f.offset ≡ 0 → MovedKnown (rest_of bigram AtStart f.offset) (rest_of bigram (After table [] 0) f'.offset) (after_item bigram (TableItem table)) f l f' l'
+    → PreambleKnown (preamble_of bigram) f l f'.offset false
+table_whole f f' None l' table none m = tt
+table_whole f f' (Some a) None table none m = absurd m
+table_whole f f' (Some a) (Some b) table none m =
     let len : length table ≡ f'.offset = omega (arith, none, item_len bigram AtStart (After table [] 0) f.offset f'.offset (window f a) (window f' b) (TableItem table) m.whole) in
     let shown : ℕ → Option (ℕ × Bool) = λ n. Some (n, false) in
-    beginning_some bigram bigram_shrinks f.offset (window f a) (TableItem table) _ m.whole ∙ ap shown len
+    preamble_some bigram bigram_shrinks f.offset (window f a) (TableItem table) _ m.whole ∙ ap shown len
 
 table_paths : (f f' : FeedState) (l l' : Option (List ℕ)) (table : List ℕ) → StreamGives here table_at f l f' l' (Ok table)
     → MovedKnown (to_come bigram AtStart f.offset 0) (to_come bigram (After table [] 0) f'.offset 0) (λ t. t) f l f' l'
@@ -76,24 +78,24 @@ left_is r s p state place = λ i w. to_come bigram (sym state i) (sym place i) 0
 fresh_state : (r : ReaderState) → is_fresh r.stage ≡ true → state_of r ≡ AtStart
 fresh_state r fresh = ap (λ (t : Stage). state_by t r.table r.path r.shared) (fresh_is r.stage fresh)
 
-pub begin_ok : (r r' : ReaderState) (l l' : Option (List ℕ)) (table : List ℕ) → is_fresh r.stage ≡ true → r.place ≡ r.feed.offset → state_of r' ≡ After table [] 0 → r'.place ≡ r'.feed.offset
+pub preamble_moves : (r r' : ReaderState) (l l' : Option (List ℕ)) (table : List ℕ) → is_fresh r.stage ≡ true → r.place ≡ r.feed.offset → state_of r' ≡ After table [] 0 → r'.place ≡ r'.feed.offset
     → StreamGives here table_at r.feed l r'.feed l' (Ok table) → MovedKnown (paths_left r) (paths_left r') (λ t. t) r.feed l r'.feed l'
-begin_ok r r' l l' table fresh at state at' g =
+preamble_moves r r' l l' table fresh at state at' g =
     subst (λ (t : Window → ToCome). MovedKnown t (paths_left r') (λ x. x) r.feed l r'.feed l') (left_is r AtStart r.feed.offset (fresh_state r fresh) at)
     (subst (λ (t : Window → ToCome). MovedKnown (to_come bigram AtStart r.feed.offset 0) t (λ x. x) r.feed l r'.feed l') (left_is r' (After table [] 0) r'.feed.offset state at') (table_paths r.feed r'.feed l l' table g))
 
-pub begin_begun : (r r' : ReaderState) (l l' : Option (List ℕ)) (table : List ℕ) → r.place ≡ r.feed.offset → r.place ≡ 0 → r'.place ≡ r'.feed.offset → StreamGives here table_at r.feed l r'.feed l' (Ok table)
-    → BeginsKnown (beginning_of bigram) r.feed l r'.place false
-begin_begun r r' l l' table at none at' g =
-    subst (λ (n : ℕ). BeginsKnown (beginning_of bigram) r.feed l n false) (sym at') (table_begun r.feed r'.feed l l' table (sym at ∙ none) (table_moved r.feed r'.feed l l' table g))
+pub preamble_whole : (r r' : ReaderState) (l l' : Option (List ℕ)) (table : List ℕ) → r.place ≡ r.feed.offset → r.place ≡ 0 → r'.place ≡ r'.feed.offset → StreamGives here table_at r.feed l r'.feed l' (Ok table)
+    → PreambleKnown (preamble_of bigram) r.feed l r'.place false
+preamble_whole r r' l l' table at none at' g =
+    subst (λ (n : ℕ). PreambleKnown (preamble_of bigram) r.feed l n false) (sym at') (table_whole r.feed r'.feed l l' table (sym at ∙ none) (table_moved r.feed r'.feed l l' table g))
 
-pub begin_refused : (r r' : ReaderState) (l l' : Option (List ℕ)) (e : Break) → r.place ≡ r.feed.offset → StreamGives here table_at r.feed l r'.feed l' (Err e) → UnbegunKnown (beginning_of bigram) r.feed l l' (fault_at r.place e)
-begin_refused r r' l l' e at g =
-    subst (λ (n : ℕ). UnbegunKnown (beginning_of bigram) r.feed l l' (fault_at n e)) (sym at) (unbegun bigram bigram_shrinks r.feed.offset r.feed.offset r.feed l l' (fault_at r.feed.offset e) (table_err r.feed r'.feed l l' e g))
+pub preamble_lacks : (r r' : ReaderState) (l l' : Option (List ℕ)) (e : Break) → r.place ≡ r.feed.offset → StreamGives here table_at r.feed l r'.feed l' (Err e) → NoPreambleKnown (preamble_of bigram) r.feed l l' (fault_at r.place e)
+preamble_lacks r r' l l' e at g =
+    subst (λ (n : ℕ). NoPreambleKnown (preamble_of bigram) r.feed l l' (fault_at n e)) (sym at) (no_preamble bigram bigram_shrinks r.feed.offset r.feed.offset r.feed l l' (fault_at r.feed.offset e) (table_err r.feed r'.feed l l' e g))
 
-pub begin_err : (r r' : ReaderState) (l l' : Option (List ℕ)) (e : Break) → is_fresh r.stage ≡ true → r.place ≡ r.feed.offset → r.place ≡ 0 → StreamGives here table_at r.feed l r'.feed l' (Err e)
+pub preamble_ends : (r r' : ReaderState) (l l' : Option (List ℕ)) (e : Break) → is_fresh r.stage ≡ true → r.place ≡ r.feed.offset → r.place ≡ 0 → StreamGives here table_at r.feed l r'.feed l' (Err e)
     → EndsKnown (paths_left r) (no_paths 0 0) r.feed l l' (Err (fault_at r.place e))
-begin_err r r' l l' e fresh at none g =
+preamble_ends r r' l l' e fresh at none g =
     let ended : EndsKnown (to_come bigram AtStart r.feed.offset 0) (no_paths r.feed.offset 0) r.feed l l' (Err (fault_at r.feed.offset e)) =
     ends_paths bigram AtStart r.feed.offset r.feed.offset 0 r.feed l l' (Err (fault_at r.feed.offset e)) (table_err r.feed r'.feed l l' e g) in
     let zero : r.feed.offset ≡ 0 = sym at ∙ none in

@@ -17,7 +17,7 @@ use Rattle.bigram_db.specs.Writer.{WriterState, nothing_put, piece, after_put, a
 use Rattle.byte_feed.proofs.CommonPrefix.{common_fits}
 use Rattle.bigram_db.proofs.EntryLaws.{table_len}
 use Rattle.bigram_db.proofs.PairPlaces.{same_true}
-use Rattle.bigram_db.proofs.Pieces.{table_first}
+use Rattle.bigram_db.proofs.PathPieces.{table_first}
 use Rattle.bigram_db.proofs.Words.{range_fits, range_same}
 
 -- ---- words

@@ -2,7 +2,8 @@
 ghost use Rattle.std.specs.Prelude.{◌≡◌, ◌≤◌, ◌<◌, ◌^◌, true, false, length, OnOk, OnErr, IfOk, IsTrue};
 ghost use Rattle.loc_outside.specs.Causes.{Rose};
 ghost use Rattle.byte_feed.specs.Feed.{empty_at, Draws, reach};
-ghost use Rattle.byte_feed.specs.Paths.{beginning_of, is_found, IsPath};
+ghost use Rattle.byte_feed.specs.Paths.{preamble_of, IsPath};
+ghost use Rattle.byte_feed.specs.Calls.{is_found};
 ghost use Rattle.byte_feed.specs.Stream.{IsFault};
 ghost use Rattle.bigram_db.specs.Items.{bigram};
 ghost use Rattle.bigram_db.specs.Reader.{ReaderState, fresh_on, is_live, is_fresh, paths_left, path_found};
@@ -82,7 +83,7 @@ impl ReaderBigram {
 impl PathStream for ReaderBigram {
     ghost feed = { λ r. r.feed };
 
-    ghost beginning = { λ r. beginning_of bigram };
+    ghost preamble = { λ r. preamble_of bigram };
 
     ghost to_come = { λ r. paths_left r };
 

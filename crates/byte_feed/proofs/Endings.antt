@@ -7,7 +7,8 @@ use Rattle.std.proofs.Math.Seq.{drop-append-add}
 use Rattle.byte_feed.specs.declared.damage.Stop.{Stop}
 use Rattle.byte_feed.specs.declared.damage.DbFault.TheVariants as faults
 use Rattle.byte_feed.specs.Front.{Format, spelling, left_by, limit, readable, on_ok, items_within, items_of, front, IsBytes, Shrinks, Laws}
-use Rattle.byte_feed.specs.Paths.{end_by, rest_of, contents}
+use Rattle.byte_feed.specs.Endings.{end_by}
+use Rattle.byte_feed.specs.Paths.{rest_of, contents}
 use Rattle.byte_feed.proofs.Fronts.{items_of_begins, IsBytes-take}
 
 on_ok_cases : {A B E : Type 0} (P : B → Type 0) (none : B) (f : A → B) (r : Result A E) → ((e : E) → r ≡ Err e → P none) → ((x : A) → r ≡ Ok x → P (f x)) → P (on_ok none f r)

@@ -2,7 +2,9 @@
 use Rattle.std.proofs.Common.{◌≡◌, ℕ, ◌+◌, Bool, true, false, List, ◌∷◌, length, Option, Some, None, MatchBool, refl, sym, ap, ◌∙◌, arith}
 use Rattle.byte_feed.specs.Front.{Format, Window}
 use Rattle.byte_feed.specs.Feed.{FeedState, window, so_far}
-use Rattle.byte_feed.specs.Paths.{Ending, Rest, after_item, no_items, after_paths, no_paths, as_paths, path_here, paths_of, heads_of, Moved, MovedKnown, Broke, EndsKnown, is_read_fault}
+use Rattle.byte_feed.specs.Endings.{Ending, is_read_fault}
+use Rattle.byte_feed.specs.Paths.{Rest, after_item, no_items, after_paths, no_paths, as_paths, path_here, paths_of, heads_of}
+use Rattle.byte_feed.specs.Calls.{Moved, MovedKnown, Broke, EndsKnown}
 
 pub moved_none : {T : Type 0} (t : Window → T) (f : FeedState) (l : Option (List ℕ)) → MovedKnown t t (λ x. x) f l f l
 moved_none t f None = tt

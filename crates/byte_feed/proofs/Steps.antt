@@ -12,7 +12,9 @@ use Rattle.byte_feed.specs.Field.{Reads}
 use Rattle.byte_feed.specs.Front.{Format, Shrinks, Window, items_of, spelling, left_by}
 use Rattle.byte_feed.specs.Feed.{FeedState, window, so_far}
 use Rattle.byte_feed.specs.Stream.{is_cut, Gave, Fails, Wanting, StreamGives}
-use Rattle.byte_feed.specs.Paths.{Ending, Rest, rest_of, after_item, no_items, end_at, end_by, damage_at, fault_of, fault_at, to_come, as_paths, after_paths, path_here, Moved, MovedKnown, Broke, EndsKnown}
+use Rattle.byte_feed.specs.Endings.{Ending, end_at, end_by, damage_at, fault_of, fault_at}
+use Rattle.byte_feed.specs.Paths.{Rest, rest_of, after_item, no_items, to_come, as_paths, after_paths, path_here}
+use Rattle.byte_feed.specs.Calls.{Moved, MovedKnown, Broke, EndsKnown}
 use Rattle.byte_feed.proofs.Fronts.{items_more, items_none}
 use Rattle.byte_feed.proofs.TakenOff.{window_took, more_took, so_far_took}
 use Rattle.byte_feed.proofs.Rests.{item_path}

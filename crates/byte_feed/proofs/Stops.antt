@@ -6,7 +6,7 @@ use Rattle.byte_feed.specs.declared.damage.Break.{Break}
 use Rattle.byte_feed.specs.declared.damage.Break.TheVariants.{ReadFault, TooLarge, Stopped}
 use Rattle.byte_feed.specs.Feed.{FeedState}
 use Rattle.byte_feed.specs.Stream.{is_cut, BreaksAt}
-use Rattle.byte_feed.specs.Paths.{StopsAt, fault_at}
+use Rattle.byte_feed.specs.Endings.{StopsAt, fault_at}
 
 pub stops_at : (X : Type 0) (f : FeedState) (place : ℕ) (cause : Break) → BreaksAt {X = X} f (Err cause) → StopsAt f place (Err (fault_at place cause))
 stops_at X f place ReadFault h = tt

@@ -1,6 +1,8 @@
-pub mod Feed
 pub mod Field
 pub mod Front
-pub mod Paths
-pub mod Prefix
+pub mod Feed
 pub mod Stream
+pub mod Endings
+pub mod Paths
+pub mod Calls
+pub mod Prefix

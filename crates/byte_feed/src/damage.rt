@@ -1,6 +1,6 @@
 //! Why a database could not be read on.
 ghost use Rattle.std.specs.Prelude.{◌≡◌};
-ghost use Rattle.byte_feed.specs.Paths.{fault_at as fault_by};
+ghost use Rattle.byte_feed.specs.Endings.{fault_at as fault_by};
 
 /// The first rule that is broken when the bytes of an item are read in order.
 #[derive(Clone, Copy, Debug, PartialEq, Eq)]

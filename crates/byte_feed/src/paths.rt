@@ -3,7 +3,9 @@ ghost use Rattle.std.specs.Prelude.{◌≡◌, ◌+◌, ◌<◌, ◌≤◌, ◌^
 ghost use Rattle.loc_outside.specs.Causes.{Rose};
 ghost use Rattle.byte_feed.specs.Front.{Window};
 ghost use Rattle.byte_feed.specs.Feed.{FeedState, reach, Draws};
-ghost use Rattle.byte_feed.specs.Paths.{PathAt, ToCome, after_paths, no_paths, MovedKnown, EndsKnown, StopsAt, BeginsKnown, UnbegunKnown, IsPath, is_found};
+ghost use Rattle.byte_feed.specs.Endings.{StopsAt};
+ghost use Rattle.byte_feed.specs.Paths.{PathAt, ToCome, after_paths, no_paths, IsPath};
+ghost use Rattle.byte_feed.specs.Calls.{MovedKnown, EndsKnown, PreambleKnown, NoPreambleKnown, is_found};
 
 use crate::damage::DbFault;
 use loc_outside::Source;
@@ -16,7 +18,7 @@ pub trait PathStream {
 
     /// The length of the file's first part, and whether its paths are shown only to those who may list their
     /// directories, where that part is whole.
-    ghost beginning: { Self → Window → Option (ℕ × Bool) };
+    ghost preamble: { Self → Window → Option (ℕ × Bool) };
 
     /// The paths still to come, and how the file ends after them.
     ghost to_come: { Self → Window → ToCome };
@@ -39,13 +41,13 @@ pub trait PathStream {
     /// The number of directory heads among them.
     ghost heads_read: { Self → ℕ };
 
-    /// Reads what stands before the first path: a header, a beginning or a table. It is refused where that part is not
+    /// Reads what stands before the first path: a header, a preamble or a table. It is refused where that part is not
     /// whole.
     fn begin_paths<S: Source>(&mut self, src: &mut S) -> Result<(), DbFault>
         requires { IsTrue (is_fresh self.old) }
-        ensures begun { OnOk result (BeginsKnown (beginning self.old) (feed self.old) (S.left src.old) (stored self.new) (is_gated self.new)) }
+        ensures begun { OnOk result (PreambleKnown (preamble self.old) (feed self.old) (S.left src.old) (stored self.new) (is_gated self.new)) }
         ensures ok { OnOk result (MovedKnown (to_come self.old) (to_come self.new) (λ t. t) (feed self.old) (S.left src.old) (feed self.new) (S.left src.new)) }
-        ensures refused { IfErr result (λ e. UnbegunKnown (beginning self.old) (feed self.old) (S.left src.old) (S.left src.new) e) }
+        ensures refused { IfErr result (λ e. NoPreambleKnown (preamble self.old) (feed self.old) (S.left src.old) (S.left src.new) e) }
         ensures err { IfErr result (λ e. EndsKnown (to_come self.old) (no_paths 0 0) (feed self.old) (S.left src.old) (S.left src.new) (Err e)) }
         ensures stops { IfErr result (λ e. StopsAt (feed self.new) 0 (Err e)) }
         ensures grows { OnOk result (0 < stored self.new) }

@@ -8,7 +8,7 @@ use Rattle.loc_outside.specs.Causes.{Rose, raised}
 use Rattle.loc_outside.specs.Files.{Files}
 use Rattle.loc_outside.specs.Held.{Held}
 use Rattle.loc_outside.specs.Trees.{Dir, Dirs}
-use Rattle.loc_outside.proofs.Parts.{part_none}
+use Rattle.loc_outside.proofs.PartTaken.{part_none}
 use Rattle.tool_words.specs.Updatedb.{UpdatedbAsked}
 use Rattle.tree_scan.specs.declared.rules.Counts.{Counts}
 use Rattle.tree_scan.specs.Blocks.{scan_text}

@@ -1,5 +1,5 @@
 pub mod Cost
 pub mod Members
-pub mod Parts
+pub mod BracketParts
 pub mod Units
 pub mod Walk

@@ -7,8 +7,8 @@ use Rattle.std.specs.List.{insert}
 use Rattle.std.specs.Option.{option_map, option_map_or}
 use Rattle.path_order.specs.declared.kind.Kind.{Kind}
 use Rattle.path_order.specs.NameList.{Listed}
-use Rattle.loc_outside.specs.declared.dir_map.TreeDir.{TreeDir}
-use Rattle.loc_outside.specs.declared.keyed.Keyed.{Keyed}
+use Rattle.loc_outside.specs.declared.memory.dir_map.TreeDir.{TreeDir}
+use Rattle.loc_outside.specs.declared.memory.keyed.Keyed.{Keyed}
 use Rattle.loc_outside.specs.DirMap.{dir_of, dirs_of, dir_at, rest_of}
 use Rattle.loc_outside.specs.Edits.{with_dir, changed_at}
 use Rattle.loc_outside.specs.Keyed.{pairs_by, KeysRise, IsAt, IsGap}

@@ -6,7 +6,7 @@ use Rattle.std.specs.FinMap.Entries.{where_key, by_order}
 use Rattle.std.specs.Ordering.{eq_by_cmp}
 use Rattle.path_order.specs.declared.kind.Kind.{Kind}
 use Rattle.path_order.specs.NameList.{Listed}
-use Rattle.loc_outside.specs.declared.keyed.Keyed.{Keyed}
+use Rattle.loc_outside.specs.declared.memory.keyed.Keyed.{Keyed}
 use Rattle.loc_outside.specs.Edits.{fits}
 use Rattle.loc_outside.specs.Keyed.{pairs_by, all_fit, AreNames}
 use Rattle.loc_outside.proofs.KeyedMaps.{put_rises, without_rises, copied_rises}

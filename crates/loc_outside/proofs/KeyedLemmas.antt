@@ -9,7 +9,7 @@ use Rattle.std.specs.FinMap.Entries.{below_all, where_key, by_order}
 use Rattle.std.specs.List.{insert, remove}
 use Rattle.std.specs.List.Sorted.{IsSortedBy}
 use Rattle.std.specs.Ordering.{eq_by_cmp, ordering_reverse}
-use Rattle.loc_outside.specs.declared.keyed.Keyed.{Keyed}
+use Rattle.loc_outside.specs.declared.memory.keyed.Keyed.{Keyed}
 use Rattle.loc_outside.specs.Keyed.{pairs_by, KeysRise, IsAt, IsGap}
 
 -- the order of keys by their bytes

@@ -6,7 +6,7 @@ use Rattle.std.specs.Cmp.Lexicographic.{slice_cmp}
 use Rattle.std.specs.FinMap as fin
 use Rattle.std.specs.FinMap.Entries.{where_key, is_sorted-put, is_sorted-where_key, find-where_key}
 use Rattle.std.specs.Ordering.{eq_by_cmp, is_eq, nat_cmp}
-use Rattle.loc_outside.specs.declared.keyed.Keyed.{Keyed}
+use Rattle.loc_outside.specs.declared.memory.keyed.Keyed.{Keyed}
 use Rattle.loc_outside.specs.Keyed.{pairs_by, map_by, KeysRise}
 use Rattle.loc_outside.proofs.KeyedLemmas.{rises_by, keys_rise}
 

@@ -1,8 +1,8 @@
-pub mod DirLemmas
-mod FittingNames
+pub mod KnownSteps
+pub mod PartTaken
 pub mod GatherLemmas
+mod StoredLemmas
 pub mod KeyedLemmas
 pub mod KeyedMaps
-pub mod KnownSteps
-pub mod Parts
-mod StoredLemmas
+mod FittingNames
+pub mod DirLemmas

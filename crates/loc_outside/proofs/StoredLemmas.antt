@@ -10,7 +10,7 @@ use Rattle.std.specs.Ordering.{nat_cmp, eq_by_cmp}
 use Rattle.std.specs.Cmp.Lexicographic.{slice_cmp}
 use Rattle.std.specs.FinMap.{find, get, insert, get-insert, get-from_entries, same_map, nat_cmp-IsAntisymmetric, slice_cmp-IsAntisymmetric}
 use Rattle.loc_outside.specs.Stored.{pairs_of, files_of, first_bytes, bytes_at, first_name, name_at}
-use Rattle.loc_outside.specs.declared.stored.StoredFile.{StoredFile}
+use Rattle.loc_outside.specs.declared.memory.stored.StoredFile.{StoredFile}
 
 -- the bytes of the first file of this name
 abbrev pub found : List ℕ → List StoredFile → Option (List ℕ)

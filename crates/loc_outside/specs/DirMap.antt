@@ -4,8 +4,8 @@ use Rattle.std.specs.declared.option.Option.{Option}
 use Rattle.std.specs.FinMap.{entries}
 use Rattle.std.specs.Option.{option_map, option_map_or}
 use Rattle.path_order.specs.NameList.{Listed}
-use Rattle.loc_outside.specs.declared.dir_map.TreeDir.{TreeDir}
-use Rattle.loc_outside.specs.declared.keyed.Keyed.{Keyed}
+use Rattle.loc_outside.specs.declared.memory.dir_map.TreeDir.{TreeDir}
+use Rattle.loc_outside.specs.declared.memory.keyed.Keyed.{Keyed}
 use Rattle.loc_outside.specs.Keyed.{map_by}
 use Rattle.loc_outside.specs.Trees.{Dir, Dirs}
 

@@ -4,7 +4,7 @@ use Rattle.std.specs.Option.{option_map_or}
 use Rattle.std.specs.FinMap.{get, insert, remove, empty}
 use Rattle.path_order.specs.declared.kind.Kind.{Kind}
 use Rattle.path_order.specs.Names.{is_name}
-use Rattle.loc_outside.specs.declared.tree.Times.{Times}
+use Rattle.loc_outside.specs.declared.traits.tree.Times.{Times}
 use Rattle.loc_outside.specs.Trees.{Names, Dir, Dirs}
 
 -- a name that fits a path

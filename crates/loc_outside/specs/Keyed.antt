@@ -8,7 +8,7 @@ use Rattle.std.specs.List.{list_all}
 use Rattle.std.specs.List.Sorted.{IsPartitionPoint}
 use Rattle.path_order.specs.declared.kind.Kind.{Kind}
 use Rattle.path_order.specs.NameList.{Listed}
-use Rattle.loc_outside.specs.declared.keyed.Keyed.{Keyed}
+use Rattle.loc_outside.specs.declared.memory.keyed.Keyed.{Keyed}
 use Rattle.loc_outside.specs.Edits.{fits}
 use Rattle.loc_outside.specs.Trees.{Names}
 

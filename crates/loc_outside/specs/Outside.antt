@@ -5,9 +5,9 @@ use Rattle.std.specs.FinMap.{get}
 use Rattle.std.specs.Io.KnownBytes.{IsAtEnd, Appends}
 use Rattle.loc_outside.specs.Causes.{raised}
 use Rattle.loc_outside.specs.Files.{Files}
-use Rattle.loc_outside.specs.declared.traits.Failed.{Failed}
-use Rattle.loc_outside.specs.declared.traits.Opened.{Opened}
-use Rattle.loc_outside.specs.declared.traits.Opened.TheVariants.{Found, Missing}
+use Rattle.loc_outside.specs.declared.traits.bytes.Failed.{Failed}
+use Rattle.loc_outside.specs.declared.traits.bytes.Opened.{Opened}
+use Rattle.loc_outside.specs.declared.traits.bytes.Opened.TheVariants.{Found, Missing}
 
 -- the number of bytes given is raised by what a read answers
 abbrev pub GivesCount : {E : Type 0} → ℕ → ℕ → Result ℕ E → Type 0

@@ -3,7 +3,7 @@ use Rattle.std.specs.Prelude.{ℕ, List, [], ◌∷◌, map, string_bytes, drop,
 use Rattle.std.specs.declared.option.Option.{Option}
 use Rattle.std.specs.FinMap.{from_entries}
 use Rattle.loc_outside.specs.Files.{Files}
-use Rattle.loc_outside.specs.declared.stored.StoredFile.{StoredFile}
+use Rattle.loc_outside.specs.declared.memory.stored.StoredFile.{StoredFile}
 
 -- names with bytes
 abbrev pub pairs_of : List StoredFile → List (List ℕ × List ℕ)

@@ -6,7 +6,7 @@ use Rattle.path_order.specs.declared.kind.Kind.{Kind}
 use Rattle.path_order.specs.declared.kind.Kind.TheVariants.{File, Directory}
 use Rattle.path_order.specs.NameList.{Listed}
 use Rattle.path_order.specs.Stamp.{Moment}
-use Rattle.loc_outside.specs.declared.tree.Times.{Times}
+use Rattle.loc_outside.specs.declared.traits.tree.Times.{Times}
 use Rattle.loc_outside.specs.Codes.{bytes_code, failures_code}
 use Rattle.loc_outside.specs.Memory.{Failures, TreeState}
 use Rattle.loc_outside.specs.Trees.{Names, Dir, Dirs}

@@ -7,10 +7,10 @@ use Rattle.std.specs.Cmp.Lexicographic.{slice_cmp}
 use Rattle.std.specs.FinMap.{FinMap, get, entries}
 use Rattle.path_order.specs.declared.kind.Kind.{Kind}
 use Rattle.path_order.specs.NameList.{Listed}
-use Rattle.loc_outside.specs.declared.traits.Failed.{Failed}
-use Rattle.loc_outside.specs.declared.tree.Times.{Times}
-use Rattle.loc_outside.specs.declared.tree.Listing.{Listing}
-use Rattle.loc_outside.specs.declared.tree.Listing.TheVariants.{Shown, Hidden, Missing}
+use Rattle.loc_outside.specs.declared.traits.bytes.Failed.{Failed}
+use Rattle.loc_outside.specs.declared.traits.tree.Times.{Times}
+use Rattle.loc_outside.specs.declared.traits.tree.Listing.{Listing}
+use Rattle.loc_outside.specs.declared.traits.tree.Listing.TheVariants.{Shown, Hidden, Missing}
 
 -- a finite map from names to kinds
 abbrev pub Names : Type 0

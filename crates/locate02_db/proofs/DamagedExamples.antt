@@ -6,10 +6,11 @@ use Rattle.byte_feed.specs.declared.damage.DamageCause.TheVariants.{Cut, EmptyPa
 use Rattle.byte_feed.specs.declared.damage.DbFault.TheVariants as faults
 use Rattle.byte_feed.specs.Field.{ended_at}
 use Rattle.byte_feed.specs.Front.{items_within, items_of}
-use Rattle.byte_feed.specs.Paths.{Ending, rest_of, contents}
+use Rattle.byte_feed.specs.Endings.{Ending}
+use Rattle.byte_feed.specs.Paths.{rest_of, contents}
 use Rattle.locate02_db.specs.Items.{long_at, entry_from, word, locate02}
 use Rattle.locate02_db.specs.Spelled.{encode02}
-use Rattle.locate02_db.proofs.Pieces.{texts}
+use Rattle.locate02_db.proofs.PathPieces.{texts}
 
 -- /usr/src
 abbrev src : List ℕ

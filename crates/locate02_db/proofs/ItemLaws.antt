@@ -14,7 +14,7 @@ use Rattle.byte_feed.proofs.Steady.{then_ok}
 use Rattle.byte_feed.proofs.Takes.{Takes, Takes-then, byte_takes, number_takes, number_again, magic_takes, ended_takes}
 use Rattle.locate02_db.specs.declared.change.Change.{Change}
 use Rattle.locate02_db.specs.declared.change.Change.TheVariants.{Short, Long}
-use Rattle.locate02_db.specs.Items.{Item, BeginItem, PathItem, magic, word, spell_change, spell, IsChange, amount, State, AtStart, After, IsEntry, shared_by, at_least_zero, allowed, long_at, change_from, shared_within, remainder_at, entry_from, entry_at, item_at, locate02}
+use Rattle.locate02_db.specs.Items.{Item, PreambleItem, PathItem, magic, word, spell_change, spell, IsChange, amount, State, AtStart, After, IsEntry, shared_by, at_least_zero, allowed, long_at, change_from, shared_within, remainder_at, entry_from, entry_at, item_at, locate02}
 
 -- ---- signed numbers
 
@@ -128,13 +128,13 @@ item_takes : (s : State) (bytes : List ℕ) (i : Item) (rest : List ℕ) → IsB
 item_takes AtStart bytes i rest small e =
     seq (magic_at magic bytes) _ _ _ e (λ (m : Unit {0} × List ℕ) e1 k1.
     let t = magic_takes magic bytes m.0 m.1 small e1 in
-    subst (λ (y : Item × List ℕ). OfItem AtStart bytes y.0 y.1) (ok_is (BeginItem, m.1) (i, rest) k1) (tt, t.whole, t.small))
+    subst (λ (y : Item × List ℕ). OfItem AtStart bytes y.0 y.1) (ok_is (PreambleItem, m.1) (i, rest) k1) (tt, t.whole, t.small))
 item_takes (After path old) bytes i rest small e = entry_takes path old bytes (i, rest) small e
 
 item_again : (s : State) (i : Item) (rest : List ℕ) → allowed s i → item_at s (spell i ++ rest) ≡ Ok (i, rest)
-item_again AtStart BeginItem rest k = refl
+item_again AtStart PreambleItem rest k = refl
 item_again AtStart (PathItem change text) rest k = absurd k
-item_again (After path old) BeginItem rest k = absurd k
+item_again (After path old) PreambleItem rest k = absurd k
 item_again (After path old) (PathItem change text) rest k = entry_again path old change text rest (shared_by old change) k
 
 pub locate02_laws : Laws locate02

@@ -10,7 +10,7 @@ use Rattle.byte_feed.proofs.Numbers.{length-big_bytes}
 use Rattle.byte_feed.proofs.Takes.{byte_sized, number_sized, magic_sized, ended_sized}
 use Rattle.locate02_db.specs.declared.change.Change.{Change}
 use Rattle.locate02_db.specs.declared.change.Change.TheVariants.{Short, Long}
-use Rattle.locate02_db.specs.Items.{Item, BeginItem, PathItem, magic, word, spell_change, spell, amount, State, AtStart, After, long_at, change_from, shared_within, remainder_at, entry_from, entry_at, item_at, locate02}
+use Rattle.locate02_db.specs.Items.{Item, PreambleItem, PathItem, magic, word, spell_change, spell, amount, State, AtStart, After, long_at, change_from, shared_within, remainder_at, entry_from, entry_at, item_at, locate02}
 
 length-word : (n : ℕ) → length (word n) ≡ 2
 unfolding word
@@ -46,7 +46,7 @@ entry_sized path old bytes x e =
 item_sized : (s : State) (bytes : List ℕ) (i : Item) (rest : List ℕ) → item_at s bytes ≡ Ok (i, rest) → length bytes ≡ length (spell i) + length rest
 item_sized AtStart bytes i rest e =
     seq (magic_at magic bytes) _ _ _ e (λ (m : Unit {0} × List ℕ) e1 k1.
-    subst (λ (y : Item × List ℕ). length bytes ≡ length (spell y.0) + length y.1) (ok_is (BeginItem, m.1) (i, rest) k1) (omega (arith, magic_sized magic bytes m.0 m.1 e1)))
+    subst (λ (y : Item × List ℕ). length bytes ≡ length (spell y.0) + length y.1) (ok_is (PreambleItem, m.1) (i, rest) k1) (omega (arith, magic_sized magic bytes m.0 m.1 e1)))
 item_sized (After path old) bytes i rest e = entry_sized path old bytes (i, rest) e
 
 -- Each item has a byte.
@@ -55,7 +55,7 @@ change_above (Short z) = omega arith
 change_above (Long z) = omega arith
 
 spell_above : (i : Item) → 0 < length (spell i)
-spell_above BeginItem = omega arith
+spell_above PreambleItem = omega arith
 spell_above (PathItem change text) = omega (arith, length-append (spell_change change) (ended text), change_above change)
 
 pub locate02_shrinks : Shrinks locate02

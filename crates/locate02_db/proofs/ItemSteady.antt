@@ -8,7 +8,7 @@ use Rattle.byte_feed.specs.Field.{◌>>=◌, Reads, magic_at, byte_at, number_at
 use Rattle.byte_feed.proofs.Steady.{Steady, bind_steady, pure_steady, stop_steady, demand_steady, byte_steady, number_steady, magic_steady, ended_steady}
 use Rattle.locate02_db.specs.declared.change.Change.{Change}
 use Rattle.locate02_db.specs.declared.change.Change.TheVariants.{Short, Long}
-use Rattle.locate02_db.specs.Items.{Item, BeginItem, PathItem, magic, amount, State, AtStart, After, long_at, change_from, shared_within, remainder_at, entry_from, entry_at, item_at}
+use Rattle.locate02_db.specs.Items.{Item, PreambleItem, PathItem, magic, amount, State, AtStart, After, long_at, change_from, shared_within, remainder_at, entry_from, entry_at, item_at}
 
 long_steady : Steady long_at
 unfolding long_at
@@ -41,5 +41,5 @@ entry_steady path old =
     shared_steady (length path) (pos old +ℤ amount change) (remainder_at change) (remainder_steady change)))
 
 pub item_steady : (s : State) → Steady (item_at s)
-item_steady AtStart = bind_steady (magic_at magic) _ (magic_steady magic) (λ begun. pure_steady BeginItem)
+item_steady AtStart = bind_steady (magic_at magic) _ (magic_steady magic) (λ begun. pure_steady PreambleItem)
 item_steady (After path old) = entry_steady path old

@@ -1,10 +1,10 @@
-mod DamagedExamples
-pub mod Encoded
 pub mod ItemLaws
 pub mod ItemSizes
-pub mod ItemSteps
 pub mod ItemSteady
-pub mod Parts
-pub mod Pieces
+pub mod ItemSteps
 pub mod ReaderSteps
+pub mod PathPieces
+pub mod Encoded
+pub mod WrittenParts
 pub mod Puts
+mod DamagedExamples

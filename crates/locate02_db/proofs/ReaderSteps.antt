@@ -13,15 +13,17 @@ use Rattle.byte_feed.specs.Field.{◌>>=◌, magic_at, byte_at}
 use Rattle.byte_feed.specs.Front.{limit, Window}
 use Rattle.byte_feed.specs.Feed.{FeedState, window, TookKnown}
 use Rattle.byte_feed.specs.Stream.{StreamGives}
-use Rattle.byte_feed.specs.Paths.{Ending, ToCome, IsPath, rest_of, to_come, after_item, no_items, no_paths, after_paths, end_at, beginning_of, MovedKnown, EndsKnown, BeginsKnown, UnbegunKnown, fault_at, before_base}
+use Rattle.byte_feed.specs.Endings.{Ending, end_at, fault_at}
+use Rattle.byte_feed.specs.Paths.{ToCome, IsPath, rest_of, to_come, after_item, no_items, no_paths, after_paths, preamble_of, before_base}
+use Rattle.byte_feed.specs.Calls.{MovedKnown, EndsKnown, PreambleKnown, NoPreambleKnown}
 use Rattle.byte_feed.proofs.TakenOff.{took_none, window_took}
 use Rattle.byte_feed.proofs.Streams.{stream_then, stream_err, byte_some, byte_none, byte_large, byte_fault}
 use Rattle.byte_feed.proofs.Steps.{lifted, step_ok, step_err, step_fault, rest_none, item_len, paths_by_items, NotEnd}
-use Rattle.byte_feed.proofs.Beginnings.{beginning_some, unbegun, ends_paths}
+use Rattle.byte_feed.proofs.Preambles.{preamble_some, no_preamble, ends_paths}
 use Rattle.locate02_db.specs.declared.reader.Stage.{Stage}
 use Rattle.locate02_db.specs.declared.reader.Stage.TheVariants as stages
 use Rattle.locate02_db.specs.declared.stream.Prefix.{Prefix}
-use Rattle.locate02_db.specs.Items.{Item, BeginItem, State, AtStart, After, magic, shared_by, path_with, entry_from, entry_at, item_at, locate02}
+use Rattle.locate02_db.specs.Items.{Item, PreambleItem, State, AtStart, After, magic, shared_by, path_with, entry_from, entry_at, item_at, locate02}
 use Rattle.locate02_db.specs.StreamItems.{item_in, Replaces}
 use Rattle.locate02_db.specs.Reader.{ReaderState, state_by, state_of, is_fresh, is_live, paths_left, path_found}
 use Rattle.locate02_db.proofs.ItemSizes.{locate02_shrinks}
@@ -36,8 +38,8 @@ lift_id : (r : Result (Item × List ℕ) Stop) → r ≡ lifted (λ (i : Item). 
 lift_id (Ok x) = refl
 lift_id (Err s) = refl
 
-beginning_lifted : (last : Bool) (bytes : List ℕ) → item_at AtStart bytes ≡ lifted (λ (u : Unit {0}). BeginItem) (magic_at magic bytes)
-beginning_lifted last bytes = lift_same (λ (u : Unit {0}). BeginItem) (magic_at magic bytes)
+preamble_lifted : (last : Bool) (bytes : List ℕ) → item_at AtStart bytes ≡ lifted (λ (u : Unit {0}). PreambleItem) (magic_at magic bytes)
+preamble_lifted last bytes = lift_same (λ (u : Unit {0}). PreambleItem) (magic_at magic bytes)
 
 entry_lifted : (path : List ℕ) (old : ℕ) (last : Bool) (bytes : List ℕ) → item_at (After path old) bytes ≡ lifted (λ (i : Item). i) (entry_at path old bytes)
 entry_lifted path old last bytes = lift_id (entry_at path old bytes)
@@ -78,55 +80,55 @@ ends_left r t place l l' e before at m =
     subst (λ (b : Window → ToCome). EndsKnown b (no_paths r.place 0) r.feed l l' (e r.place)) before
     (subst (λ (n : ℕ). EndsKnown t (no_paths n 0) r.feed l l' (e n)) at m)
 
--- ---- the beginning
+-- ---- the preamble
 
-begin_moved : (f f' : FeedState) (l l' : Option (List ℕ)) → StreamGives (λ (u : Unit {0}). u) (magic_at magic) f l f' l' (Ok tt)
-    → MovedKnown (rest_of locate02 AtStart f.offset) (rest_of locate02 (After [] 0) f'.offset) (after_item locate02 BeginItem) f l f' l'
-begin_moved f f' l l' g = step_ok locate02 locate02_shrinks AtStart (λ (u : Unit {0}). u) (λ (u : Unit {0}). BeginItem) (magic_at magic) beginning_lifted f f' l l' tt g
+preamble_given : (f f' : FeedState) (l l' : Option (List ℕ)) → StreamGives (λ (u : Unit {0}). u) (magic_at magic) f l f' l' (Ok tt)
+    → MovedKnown (rest_of locate02 AtStart f.offset) (rest_of locate02 (After [] 0) f'.offset) (after_item locate02 PreambleItem) f l f' l'
+preamble_given f f' l l' g = step_ok locate02 locate02_shrinks AtStart (λ (u : Unit {0}). u) (λ (u : Unit {0}). PreambleItem) (magic_at magic) preamble_lifted f f' l l' tt g
 
-begun_by : (f f' : FeedState) (l l' : Option (List ℕ)) → f.offset ≡ 0
-    → MovedKnown (rest_of locate02 AtStart f.offset) (rest_of locate02 (After [] 0) f'.offset) (after_item locate02 BeginItem) f l f' l' → BeginsKnown (beginning_of locate02) f l f'.offset false
-begun_by f f' None l' none m = tt
-begun_by f f' (Some a) None none m = absurd m
-begun_by f f' (Some a) (Some b) none m =
-    let len : length magic ≡ f'.offset = omega (arith, none, item_len locate02 AtStart (After [] 0) f.offset f'.offset _ _ BeginItem m.whole) in
-    beginning_some locate02 locate02_shrinks f.offset _ BeginItem _ m.whole ∙ ap (λ (n : ℕ). Some (n, false)) len
+preamble_whole_by : (f f' : FeedState) (l l' : Option (List ℕ)) → f.offset ≡ 0
+    → MovedKnown (rest_of locate02 AtStart f.offset) (rest_of locate02 (After [] 0) f'.offset) (after_item locate02 PreambleItem) f l f' l' → PreambleKnown (preamble_of locate02) f l f'.offset false
+preamble_whole_by f f' None l' none m = tt
+preamble_whole_by f f' (Some a) None none m = absurd m
+preamble_whole_by f f' (Some a) (Some b) none m =
+    let len : length magic ≡ f'.offset = omega (arith, none, item_len locate02 AtStart (After [] 0) f.offset f'.offset _ _ PreambleItem m.whole) in
+    preamble_some locate02 locate02_shrinks f.offset _ PreambleItem _ m.whole ∙ ap (λ (n : ℕ). Some (n, false)) len
 
--- the beginning was read
-pub begun : (r : ReaderState) (f' : FeedState) (place : ℕ) (l l' : Option (List ℕ)) → r.place ≡ r.feed.offset → r.place ≡ 0 → place ≡ f'.offset → StreamGives (λ (u : Unit {0}). u) (magic_at magic) r.feed l f' l' (Ok tt)
-    → BeginsKnown (beginning_of locate02) r.feed l place false
-begun r f' place l l' at none at' g =
-    subst (λ (n : ℕ). BeginsKnown (beginning_of locate02) r.feed l n false) (sym at')
-    (begun_by r.feed f' l l' (sym at ∙ none) (begin_moved r.feed f' l l' g))
+-- the preamble was read
+pub preamble_whole : (r : ReaderState) (f' : FeedState) (place : ℕ) (l l' : Option (List ℕ)) → r.place ≡ r.feed.offset → r.place ≡ 0 → place ≡ f'.offset → StreamGives (λ (u : Unit {0}). u) (magic_at magic) r.feed l f' l' (Ok tt)
+    → PreambleKnown (preamble_of locate02) r.feed l place false
+preamble_whole r f' place l l' at none at' g =
+    subst (λ (n : ℕ). PreambleKnown (preamble_of locate02) r.feed l n false) (sym at')
+    (preamble_whole_by r.feed f' l l' (sym at ∙ none) (preamble_given r.feed f' l l' g))
 
 -- the paths to come are the same behind it
-pub paths_begun : (r r' : ReaderState) (l l' : Option (List ℕ)) → r.stage ≡ stages.Fresh → r.place ≡ r.feed.offset → r'.stage ≡ stages.Live → r'.path ≡ [] → r'.shared ≡ 0 → r'.place ≡ r'.feed.offset
+pub preamble_moves : (r r' : ReaderState) (l l' : Option (List ℕ)) → r.stage ≡ stages.Fresh → r.place ≡ r.feed.offset → r'.stage ≡ stages.Live → r'.path ≡ [] → r'.shared ≡ 0 → r'.place ≡ r'.feed.offset
     → StreamGives (λ (u : Unit {0}). u) (magic_at magic) r.feed l r'.feed l' (Ok tt) → MovedKnown (paths_left r) (paths_left r') (λ t. t) r.feed l r'.feed l'
-paths_begun r r' l l' stage at stage' path' shared' at' g =
+preamble_moves r r' l l' stage at stage' path' shared' at' g =
     moved_left r r' _ _ (λ t. t) l l' (left_is r AtStart r.feed.offset (fresh_state r stage) at) (left_is r' (After [] 0) r'.feed.offset (live_state r' [] 0 stage' path' shared') at')
-    (paths_by_items locate02 AtStart (After [] 0) r.feed.offset r'.feed.offset 0 BeginItem r.feed r'.feed l l' refl (begin_moved r.feed r'.feed l l' g))
+    (paths_by_items locate02 AtStart (After [] 0) r.feed.offset r'.feed.offset 0 PreambleItem r.feed r'.feed l l' refl (preamble_given r.feed r'.feed l l' g))
 
 never_end : (f : FeedState) (l : Option (List ℕ)) → NotEnd locate02 AtStart f l
 never_end f None = tt
 never_end f (Some a) = refl
 
-begin_ends : (f f' : FeedState) (l l' : Option (List ℕ)) (e : Break) → StreamGives (λ (u : Unit {0}). u) (magic_at magic) f l f' l' (Err e)
+preamble_broke : (f f' : FeedState) (l l' : Option (List ℕ)) (e : Break) → StreamGives (λ (u : Unit {0}). u) (magic_at magic) f l f' l' (Err e)
     → EndsKnown (rest_of locate02 AtStart f.offset) (no_items locate02 f.offset) f l l' (Err (fault_at f.offset e))
-begin_ends f f' l l' e g = step_err locate02 locate02_shrinks AtStart (λ (u : Unit {0}). u) (λ (u : Unit {0}). BeginItem) (magic_at magic) beginning_lifted f f' l l' e (never_end f l) g
+preamble_broke f f' l l' e g = step_err locate02 locate02_shrinks AtStart (λ (u : Unit {0}). u) (λ (u : Unit {0}). PreambleItem) (magic_at magic) preamble_lifted f f' l l' e (never_end f l) g
 
--- no beginning stands there
-pub not_begun : (r : ReaderState) (f' : FeedState) (l l' : Option (List ℕ)) (e : Break) → r.place ≡ r.feed.offset → StreamGives (λ (u : Unit {0}). u) (magic_at magic) r.feed l f' l' (Err e)
-    → UnbegunKnown (beginning_of locate02) r.feed l l' (fault_at r.place e)
-not_begun r f' l l' e at g =
-    subst (λ (n : ℕ). UnbegunKnown (beginning_of locate02) r.feed l l' (fault_at n e)) (sym at)
-    (unbegun locate02 locate02_shrinks r.feed.offset r.feed.offset r.feed l l' (fault_at r.feed.offset e) (begin_ends r.feed f' l l' e g))
+-- no preamble stands there
+pub preamble_lacks : (r : ReaderState) (f' : FeedState) (l l' : Option (List ℕ)) (e : Break) → r.place ≡ r.feed.offset → StreamGives (λ (u : Unit {0}). u) (magic_at magic) r.feed l f' l' (Err e)
+    → NoPreambleKnown (preamble_of locate02) r.feed l l' (fault_at r.place e)
+preamble_lacks r f' l l' e at g =
+    subst (λ (n : ℕ). NoPreambleKnown (preamble_of locate02) r.feed l l' (fault_at n e)) (sym at)
+    (no_preamble locate02 locate02_shrinks r.feed.offset r.feed.offset r.feed l l' (fault_at r.feed.offset e) (preamble_broke r.feed f' l l' e g))
 
-pub begin_ended : (r : ReaderState) (f' : FeedState) (l l' : Option (List ℕ)) (e : Break) → r.stage ≡ stages.Fresh → r.place ≡ r.feed.offset → r.place ≡ 0 → StreamGives (λ (u : Unit {0}). u) (magic_at magic) r.feed l f' l' (Err e)
+pub preamble_ends : (r : ReaderState) (f' : FeedState) (l l' : Option (List ℕ)) (e : Break) → r.stage ≡ stages.Fresh → r.place ≡ r.feed.offset → r.place ≡ 0 → StreamGives (λ (u : Unit {0}). u) (magic_at magic) r.feed l f' l' (Err e)
     → EndsKnown (paths_left r) (no_paths 0 0) r.feed l l' (Err (fault_at r.place e))
-begin_ended r f' l l' e stage at none g =
+preamble_ends r f' l l' e stage at none g =
     subst (λ (n : ℕ). EndsKnown (paths_left r) (no_paths n 0) r.feed l l' (Err (fault_at r.place e))) none
     (ends_left r _ r.feed.offset l l' (λ p. Err (fault_at p e)) (left_is r AtStart r.feed.offset (fresh_state r stage) at) (sym at)
-    (ends_paths locate02 AtStart r.feed.offset r.feed.offset 0 r.feed l l' (Err (fault_at r.feed.offset e)) (begin_ends r.feed f' l l' e g)))
+    (ends_paths locate02 AtStart r.feed.offset r.feed.offset 0 r.feed l l' (Err (fault_at r.feed.offset e)) (preamble_broke r.feed f' l l' e g)))
 
 -- ---- an entry
 

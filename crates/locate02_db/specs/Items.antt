@@ -1,4 +1,4 @@
--- The items of a LOCATE02 database, as locatedb(5) has them, in the order of their bytes: a beginning, and then an entry
+-- The items of a LOCATE02 database, as locatedb(5) has them, in the order of their bytes: a preamble, and then an entry
 -- for each path. An entry tells how many bytes its path shares with the path before, by the change of that number
 -- against the entry before, and then the rest of the path.
 use Rattle.std.specs.Prelude.{◌≡◌, ℕ, ◌+◌, ◌-◌, ◌<◌, ◌≤◌, ℤ, pos, negsuc, ◌+ℤ◌, ◌≤ℤ◌, Bool, true, false, List, [], ◌∷◌, ◌++◌, length, take, Option, Some, None, Result, Ok, Err, nat_lt, nat_le, ◌==◌, if◌then◌else◌}
@@ -18,7 +18,7 @@ use Rattle.locate02_db.specs.declared.change.Change.TheVariants.{Short, Long}
 
 -- The rest of the path is what follows the bytes that it shares.
 pub data Item : Type 0 where
-  BeginItem : Item
+  PreambleItem : Item
   PathItem : Change → (remainder : List ℕ) → Item
 
 -- ---- how an item is spelled
@@ -38,7 +38,7 @@ spell_change (Short change) = cast_unsigned w8 change ∷ []
 spell_change (Long change) = 128 ∷ word (cast_unsigned w16 change)
 
 abbrev pub spell : Item → List ℕ
-spell BeginItem = magic
+spell PreambleItem = magic
 spell (PathItem change remainder) = spell_change change ++ ended remainder
 
 -- ---- which items may come
@@ -54,7 +54,7 @@ amount (Short change) = change
 amount (Long change) = change
 
 -- What the items so far leave: nothing was read; or the path before, and how many bytes it shared with the one before
--- it. The beginning counts as the empty path.
+-- it. The preamble counts as the empty path.
 pub data State : Type 0 where
   AtStart : State
   After : (path : List ℕ) → (shared : ℕ) → State
@@ -78,7 +78,7 @@ abbrev pub shared_by : ℕ → Change → ℕ
 shared_by old change = at_least_zero (pos old +ℤ amount change)
 
 abbrev pub allowed : State → Item → Type 0
-allowed AtStart BeginItem = Unit {0}
+allowed AtStart PreambleItem = Unit {0}
 allowed (After path old) (PathItem change remainder) = IsEntry path old change remainder (shared_by old change)
 allowed s i = ⊥
 
@@ -89,7 +89,7 @@ path_with path shared remainder = take shared path ++ remainder
 -- What the items leave with one more. It is asked for an item that is allowed there alone, and says nothing of others.
 abbrev pub after : State → Item → State
 after AtStart i = After [] 0
-after (After path old) BeginItem = After path old
+after (After path old) PreambleItem = After path old
 after (After path old) (PathItem change remainder) = After (path_with path (shared_by old change) remainder) (shared_by old change)
 
 -- The file may end before any entry.
@@ -136,7 +136,7 @@ entry_at path old bytes = do
 abbrev pub item_at : State → Reads Item
 item_at AtStart bytes = do
   begun ← magic_at magic bytes
-  Ok (BeginItem, begun.1)
+  Ok (PreambleItem, begun.1)
 item_at (After path old) bytes = entry_at path old bytes
 
 -- ---- what an item gives

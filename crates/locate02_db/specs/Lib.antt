@@ -1,5 +1,5 @@
 pub mod Items
-pub mod Reader
 pub mod Spelled
 pub mod StreamItems
+pub mod Reader
 pub mod Writer

@@ -23,7 +23,7 @@ SpellsAfter before old [] bytes = bytes ≡ []
 SpellsAfter before old (path ∷ paths) bytes =
     (new : ℕ) × (piece : List ℕ) × (rest : List ℕ) × (bytes ≡ piece ++ rest) × IsPiece before old path new piece × SpellsAfter path new paths rest
 
--- The file spells this list of paths: the beginning, and then a piece for each of them.
+-- The file spells this list of paths: the preamble, and then a piece for each of them.
 pub record Spells02 (paths : List (List ℕ)) (file : List ℕ) : Type 0 where
   pub rest : List ℕ
   pub begins : file ≡ magic ++ rest

@@ -20,7 +20,7 @@ pub fn front_is_longest()
 
 /// A broken rule of an item stays the cause of damage whatever bytes follow. Where a file is cut short, some bytes more
 /// make its last item whole, or break another rule of it. It ends whole where it is the spelling of its front, is shorter
-/// than the limit, and has its beginning.
+/// than the limit, and has its preamble.
 pub fn ending_is_first_fault()
     ensures stays { (s : State) (bytes more : List ℕ) (cause : DamageCause) → (cause ≡ Cut → ⊥) → item_at s bytes ≡ Err (Broken cause) → item_at s (bytes ++ more) ≡ Err (Broken cause) }
     ensures cut { (s : State) (bytes : List ℕ) → item_at s bytes ≡ Err (Broken Cut) → (more : List ℕ) × IsBytes more × (item_at s (bytes ++ more) ≡ Err (Broken Cut) → ⊥) }

@@ -1,11 +1,11 @@
 //! A database, read path by path.
 ghost use Rattle.std.specs.Prelude.{◌≡◌, ◌≤◌, ◌<◌, ◌^◌, false, true};
 ghost use Rattle.byte_feed.specs.Feed.{empty_at};
-ghost use Rattle.byte_feed.specs.Paths.{beginning_of};
+ghost use Rattle.byte_feed.specs.Paths.{preamble_of};
 ghost use Rattle.locate02_db.specs.Items.{locate02};
 ghost use Rattle.locate02_db.specs.Reader.{ReaderState, fresh_on, is_fresh, is_live, path_found, paths_left};
 
-use crate::stream::{read_beginning, read_entry};
+use crate::stream::{read_entry, read_preamble};
 use byte_feed::{DbFault, Feed, FeedFault, PathStream, fault_at};
 use loc_outside::Source;
 use path_order::{PathBuf, base_start};
@@ -14,7 +14,7 @@ use std::marker::Model;
 /// What a reader reads next.
 #[derive(Clone, Copy, Debug, PartialEq, Eq)]
 pub enum Stage {
-    /// The beginning.
+    /// The preamble.
     Fresh,
     /// An entry, or the end of the file.
     Live,
@@ -72,7 +72,7 @@ impl Reader02 {
 impl PathStream for Reader02 {
     ghost feed = { λ r. r.feed };
 
-    ghost beginning = { λ r. beginning_of locate02 };
+    ghost preamble = { λ r. preamble_of locate02 };
 
     ghost to_come = { λ r. paths_left r };
 
@@ -92,7 +92,7 @@ impl PathStream for Reader02 {
         self.path.cut(0);
         self.shared = 0;
         self.stage = Stage::Done;
-        match read_beginning(&mut self.feed, src) {
+        match read_preamble(&mut self.feed, src) {
             Ok(()) => {
                 self.place = self.feed.offset();
                 self.stage = Stage::Live;

@@ -21,8 +21,8 @@ pub struct Prefix {
 }
 
 /// What a database begins with.
-pub(crate) fn read_beginning<S: Source>(feed: &mut Feed, src: &mut S) -> Result<(), Break>
-    ensures beginning { StreamGives (λ u. u) (magic_at magic) feed.old (S.left src.old) feed.new (S.left src.new) result }
+pub(crate) fn read_preamble<S: Source>(feed: &mut Feed, src: &mut S) -> Result<(), Break>
+    ensures preamble { StreamGives (λ u. u) (magic_at magic) feed.old (S.left src.old) feed.new (S.left src.new) result }
     ensures grows { OnOk result (feed.old.offset < feed.new.offset) }
     ensures near { feed.new.offset ≤ feed.old.offset + 10 }
     ensures broke { BreaksAt feed.new result }

@@ -11,9 +11,11 @@ use Rattle.loc_outside.specs.Files.{Files}
 use Rattle.byte_feed.specs.Front.{Window, limit, readable, items_of, items_within}
 use Rattle.byte_feed.specs.Feed.{FeedState, empty_at, window, so_far, reach, Draws}
 use Rattle.loc_outside.specs.Causes.{raised}
-use Rattle.byte_feed.specs.Paths.{Ending, PathAt, ToCome, Moved, MovedKnown, EndsKnown, StopsAt, after_paths, no_paths, rest_of}
+use Rattle.byte_feed.specs.Endings.{Ending, StopsAt}
+use Rattle.byte_feed.specs.Paths.{PathAt, ToCome, after_paths, no_paths, rest_of}
+use Rattle.byte_feed.specs.Calls.{Moved, MovedKnown, EndsKnown}
 use Rattle.byte_feed.proofs.Rests.{moved_none}
-use Rattle.any_db.specs.Formats.{format_of, rest_in, contents_of_part}
+use Rattle.any_db.specs.Formats.{format_of, to_come_in, contents_of_part}
 use Rattle.any_db.specs.Reader.{fresh, paths_left, feed_of}
 use Rattle.any_db.specs.declared.any_reader.AnyReader.{AnyReader}
 use Rattle.locate_engine.specs.declared.outcome.Outcome.{Outcome}
@@ -264,7 +266,7 @@ pub counts_opened : (r : AnyReader) → r ≡ fresh → (f : FeedState) (l l' : 
     → CountsKnown (paths_left r.stage) (feed_of r.stage) l l' stats result → Draws (feed_of r.stage) f g g' l l' → reach f ≤ 2 ^ 40
     → IfSome l (λ file. (result ≡ outcomes.ReadFault → g ≤ 2 ^ 63) → Counts (read_in file (g' - g) result) stats result)
 counts_opened r e f l l' g g' stats result done drawn far =
-    counts_file rest_in f l l' g g' stats result (subst (λ (q : AnyReader). CountsKnown (paths_left q.stage) (feed_of q.stage) l l' stats result) e done)
+    counts_file to_come_in f l l' g g' stats result (subst (λ (q : AnyReader). CountsKnown (paths_left q.stage) (feed_of q.stage) l l' stats result) e done)
     (subst (λ (q : AnyReader). Draws (feed_of q.stage) f g g' l l') e drawn) far
 
 pub whole_drawn : (r : AnyReader) → r ≡ fresh → (f : FeedState) (l l' : Option (List ℕ)) (g g' : ℕ) → Draws (feed_of r.stage) f g g' l l' → reach f ≡ 2 ^ 40 → g' ≡ raised g (2 ^ 40)
@@ -272,14 +274,14 @@ whole_drawn r e f l l' g g' drawn far = drawn_whole f g g' l l' (subst (λ (q : 
 
 -- ---- a file that could not be opened
 
-no_bytes : (more : Bool) → stats_of (rest_in (record { bytes = []; more = more })) ≡ no_stats
-unfolding rest_in format_of rest_of items_of items_within
+no_bytes : (more : Bool) → stats_of (to_come_in (record { bytes = []; more = more })) ≡ no_stats
+unfolding to_come_in format_of rest_of items_of items_within
 no_bytes more = refl
 
 nothing_given : (n : ℕ) (file : List ℕ) → n ≡ 0 → stats_of (contents_of_part n file) ≡ no_stats
 nothing_given n file none =
     let all : record { bytes = take limit (take n file); more = true } ≡ record { bytes = []; more = true } = ap (λ (bytes : List ℕ). record { bytes = bytes; more = true }) (ap (λ (k : ℕ). take limit (take k file)) none ∙ take-nil limit) in
-    ap (λ (w : Window). stats_of (rest_in w)) all ∙ no_bytes true
+    ap (λ (w : Window). stats_of (to_come_in w)) all ∙ no_bytes true
 
 counts_unopened : (g g' : ℕ) → g' ≡ g → (file : List ℕ) → Counts (read_in file (g' - g) outcomes.ReadFault) no_stats outcomes.ReadFault
 counts_unopened g g' same file = record {

@@ -8,7 +8,9 @@ use Rattle.loc_outside.specs.Gates.{Tests}
 use Rattle.byte_feed.specs.declared.damage.DbFault.TheVariants as faults
 use Rattle.byte_feed.specs.Front.{Window}
 use Rattle.byte_feed.specs.Feed.{FeedState, window, so_far}
-use Rattle.byte_feed.specs.Paths.{Ending, PathAt, ToCome, Moved, MovedKnown, EndsKnown, after_paths, no_paths}
+use Rattle.byte_feed.specs.Endings.{Ending}
+use Rattle.byte_feed.specs.Paths.{PathAt, ToCome, after_paths, no_paths}
+use Rattle.byte_feed.specs.Calls.{Moved, MovedKnown, EndsKnown}
 use Rattle.byte_feed.proofs.Draws.{raised_more}
 use Rattle.locate_engine.specs.Passing.{Rule, rule_of, tests_asked, line_of, passing, lines, due, OneDirectory}
 use Rattle.locate_engine.specs.Searched.{Stand, gone_through, outcome_of, is_read_fault, steps_over, ComesToEnd, StopsAs, Searches, SearchesTo, SearchesKnown, end_after, EndsWithin, EndsWithinKnown, is_by_end, seen_of}

@@ -3,6 +3,6 @@ pub mod Exits
 pub mod Gone
 pub mod Occurs
 pub mod Opened
-pub mod Parts
+pub mod LineParts
 pub mod Patterns
 pub mod Whole

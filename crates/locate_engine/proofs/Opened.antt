@@ -7,16 +7,18 @@ use Rattle.loc_outside.specs.Files.{Files}
 use Rattle.loc_outside.specs.Causes.{raised}
 use Rattle.loc_outside.specs.Gates.{Tests}
 use Rattle.loc_outside.specs.Outside.{OpensAs}
-use Rattle.loc_outside.specs.declared.traits.Opened.{Opened}
-use Rattle.loc_outside.specs.declared.traits.Opened.TheVariants.{Found}
+use Rattle.loc_outside.specs.declared.traits.bytes.Opened.{Opened}
+use Rattle.loc_outside.specs.declared.traits.bytes.Opened.TheVariants.{Found}
 use Rattle.byte_feed.specs.declared.damage.DbFault.{DbFault}
 use Rattle.byte_feed.specs.declared.damage.DbFault.TheVariants as faults
 use Rattle.byte_feed.specs.Front.{Window, limit, readable, items_of, items_within}
 use Rattle.byte_feed.specs.Feed.{FeedState, empty_at, window, so_far, reach, Draws}
-use Rattle.byte_feed.specs.Paths.{Ending, StopsAt, ToCome, Moved, MovedKnown, EndsKnown, BeginsKnown, no_paths, rest_of}
+use Rattle.byte_feed.specs.Endings.{Ending, StopsAt}
+use Rattle.byte_feed.specs.Paths.{ToCome, no_paths, rest_of}
+use Rattle.byte_feed.specs.Calls.{Moved, MovedKnown, EndsKnown, PreambleKnown}
 use Rattle.byte_feed.proofs.Draws.{draws_then}
 use Rattle.byte_feed.proofs.Rests.{moved_none}
-use Rattle.any_db.specs.Formats.{format_of, rest_in, beginning, asks_gate, is_gated, contents, contents_of_part}
+use Rattle.any_db.specs.Formats.{format_of, to_come_in, preamble_in, asks_gate, is_gated, contents, contents_of_part}
 use Rattle.any_db.specs.Reader.{fresh, feed_of, paths_left}
 use Rattle.any_db.specs.declared.any_reader.AnyReader.{AnyReader}
 use Rattle.any_db.proofs.Blocks.{one_directory_a_block}
@@ -73,12 +75,12 @@ is_the_read_fault outcomes.WriteFault e = absurd cc
 
 -- what is seen of a file that is read from its first byte on, as far as it was drawn
 seen_file : (b : Bool) (file left : List ℕ) (n k : ℕ) → n ≤ length file → left ≡ drop n file → (b ≡ true → k ≡ n)
-    → rest_in (cond b (so_far (empty_at 0) file (length left)) (window (empty_at 0) file)) ≡ cond b (contents_of_part k file) (contents file)
-seen_file true file left n k fits rest same = ap rest_in (part_window file left n fits rest) ∙ ap (λ (c : ℕ). contents_of_part c file) (sym (same refl))
-seen_file false file left n k fits rest same = ap rest_in (whole_window file)
+    → to_come_in (cond b (so_far (empty_at 0) file (length left)) (window (empty_at 0) file)) ≡ cond b (contents_of_part k file) (contents file)
+seen_file true file left n k fits rest same = ap to_come_in (part_window file left n fits rest) ∙ ap (λ (c : ℕ). contents_of_part c file) (sym (same refl))
+seen_file false file left n k fits rest same = ap to_come_in (whole_window file)
 
 seen_by : (f : FeedState) (g g' : ℕ) (file left : List ℕ) (result : Outcome) → Draws (empty_at 0) f g g' (Some file) (Some left) → reach f ≤ 2 ^ 40 → (result ≡ outcomes.ReadFault → g ≤ 2 ^ 63)
-    → seen_of rest_in (empty_at 0) file (length left) result ≡ seen_in file (g' - g) result
+    → seen_of to_come_in (empty_at 0) file (length left) result ≡ seen_in file (g' - g) result
 seen_by f g g' file left result drawn far small =
     let n : ℕ = reach f - reach (empty_at 0) in
     let fits : n ≤ 2 ^ 40 = omega (arith, far) in
@@ -86,8 +88,8 @@ seen_by f g g' file left result drawn far small =
     seen_file (is_read_fault result) file left n (g' - g) drawn.rest.0 drawn.rest.1 gap
 
 -- whether it asks for visible paths alone
-gated_is : (file : List ℕ) (place : ℕ) (gated : Bool) → beginning (window (empty_at 0) file) ≡ Some (place, gated) → is_gated file ≡ gated
-gated_is file place gated begun = ap (λ (w : Window). asks_gate (beginning w)) (sym (whole_window file)) ∙ ap asks_gate begun
+gated_is : (file : List ℕ) (place : ℕ) (gated : Bool) → preamble_in (window (empty_at 0) file) ≡ Some (place, gated) → is_gated file ≡ gated
+gated_is file place gated begun = ap (λ (w : Window). asks_gate (preamble_in w)) (sym (whole_window file)) ∙ ap asks_gate begun
 
 -- ---- of what is told
 
@@ -101,14 +103,14 @@ if_each (Some x) P Q each h = each x h
 
 -- ---- a file that does not begin
 
-no_bytes : (more : Bool) → (rest_in (record { bytes = []; more = more })).paths ≡ []
-unfolding rest_in format_of rest_of items_of items_within
+no_bytes : (more : Bool) → (to_come_in (record { bytes = []; more = more })).paths ≡ []
+unfolding to_come_in format_of rest_of items_of items_within
 no_bytes more = refl
 
 nothing_given : (n : ℕ) (file : List ℕ) → n ≡ 0 → (contents_of_part n file).paths ≡ []
 nothing_given n file none =
     let all : record { bytes = take limit (take n file); more = true } ≡ record { bytes = []; more = true } = ap (λ (bytes : List ℕ). record { bytes = bytes; more = true }) (ap (λ (k : ℕ). take limit (take k file)) none ∙ take-nil limit) in
-    ap (λ (w : Window). (rest_in w).paths) all ∙ no_bytes true
+    ap (λ (w : Window). (to_come_in w).paths) all ∙ no_bytes true
 
 no_read_fault : (result : Outcome) → (result ≡ outcomes.ReadFault → ⊥) → is_read_fault result ≡ false
 no_read_fault outcomes.Whole read = refl
@@ -142,26 +144,26 @@ module _ (wanted : List ℕ → Bool) (bound : List ℕ → ℕ) (query : Query)
       (λ told small. record { did = all small told; near = λ is. absurd (early is) })
 
   -- the file ends so before its first path
-  fails_whole : (fault : DbFault) (file : List ℕ) (g g' : ℕ) → rest_in (window (empty_at 0) file) ≡ no_paths 0 0 (Err fault) → is_read_fault (outcome_of (Err fault)) ≡ false
+  fails_whole : (fault : DbFault) (file : List ℕ) (g g' : ℕ) → to_come_in (window (empty_at 0) file) ≡ no_paths 0 0 (Err fault) → is_read_fault (outcome_of (Err fault)) ≡ false
       → ((rule : Rule) (seen : ToCome) (at : Progress) → ComesToEnd rule seen old.matched at (outcome_of (Err fault)) → StopsAs rule seen old.matched at (outcome_of (Err fault)))
       → SearchesFile wanted bound query file tests g g' old old s s (outcome_of (Err fault))
   fails_whole fault file g g' nothing read stops = any_tests file g g' (outcome_of (Err fault)) (no_limit (Err fault)) (λ small told.
       let seen : seen_in file (g' - g) (outcome_of (Err fault)) ≡ no_paths 0 0 (Err fault) =
-      ap (λ (b : Bool). cond b (contents_of_part (g' - g) file) (contents file)) read ∙ ap rest_in (sym (whole_window file)) ∙ nothing in
+      ap (λ (b : Bool). cond b (contents_of_part (g' - g) file) (contents file)) read ∙ ap to_come_in (sym (whole_window file)) ∙ nothing in
       no_path_by (rule_of wanted query (is_gated file) told) bound old s (seen_in file (g' - g) (outcome_of (Err fault))) (outcome_of (Err fault)) below (ap (λ (z : ToCome). z.paths) seen)
       (λ _. ap (λ (z : ToCome). outcome_of z.ending) (sym seen)) (stops (rule_of wanted query (is_gated file) told) _ _))
 
-  fails_by : (fault : DbFault) (f : FeedState) (file left : List ℕ) (g g' : ℕ) → EndsKnown rest_in (no_paths 0 0) (empty_at 0) (Some file) (Some left) (Err fault) → Draws (empty_at 0) f g g' (Some file) (Some left) → reach f ≤ 2 ^ 40
+  fails_by : (fault : DbFault) (f : FeedState) (file left : List ℕ) (g g' : ℕ) → EndsKnown to_come_in (no_paths 0 0) (empty_at 0) (Some file) (Some left) (Err fault) → Draws (empty_at 0) f g g' (Some file) (Some left) → reach f ≤ 2 ^ 40
       → SearchesFile wanted bound query file tests g g' old old s s (outcome_of (Err fault))
   fails_by faults.ReadFault f file left g g' ends drawn far = any_tests file g g' outcomes.ReadFault (λ e. absurd cc) (λ small told.
-      let seen : rest_in (so_far (empty_at 0) file (length left)) ≡ seen_in file (g' - g) outcomes.ReadFault = seen_by f g g' file left outcomes.ReadFault drawn far small in
+      let seen : to_come_in (so_far (empty_at 0) file (length left)) ≡ seen_in file (g' - g) outcomes.ReadFault = seen_by f g g' file left outcomes.ReadFault drawn far small in
       no_path_by (rule_of wanted query (is_gated file) told) bound old s (seen_in file (g' - g) outcomes.ReadFault) outcomes.ReadFault below (ap (λ (z : ToCome). z.paths) (sym seen ∙ ends.nothing))
       (λ e. absurd (on_off e)) (λ z. z))
   fails_by faults.NotADatabase f file left g g' ends drawn far = fails_whole faults.NotADatabase file g g' ends refl (λ rule seen at z. z)
   fails_by (faults.Damage d) f file left g g' ends drawn far = fails_whole (faults.Damage d) file g g' ends refl (λ rule seen at z. z)
   fails_by faults.TooLarge f file left g g' ends drawn far = fails_whole faults.TooLarge file g g' ends refl (λ rule seen at z. z)
 
-  fails_known : (fault : DbFault) (f : FeedState) (l l' : Option (List ℕ)) (g g' : ℕ) → EndsKnown rest_in (no_paths 0 0) (empty_at 0) l l' (Err fault) → Draws (empty_at 0) f g g' l l' → reach f ≤ 2 ^ 40
+  fails_known : (fault : DbFault) (f : FeedState) (l l' : Option (List ℕ)) (g g' : ℕ) → EndsKnown to_come_in (no_paths 0 0) (empty_at 0) l l' (Err fault) → Draws (empty_at 0) f g g' l l' → reach f ≤ 2 ^ 40
       → IfSome l (λ file. SearchesFile wanted bound query file tests g g' old old s s (outcome_of (Err fault)))
   fails_known fault f None l' g g' ends drawn far = tt
   fails_known fault f (Some file) None g g' ends drawn far = absurd ends
@@ -192,7 +194,7 @@ module _ (wanted : List ℕ → Bool) (bound : List ℕ → ℕ) (query : Query)
 -- ---- a file that begins
 
 -- Of the paths that come after the first part, those of one block have one directory.
-blocks_of : (t : Window → ToCome) (f : FeedState) (file left : List ℕ) (place : ℕ) (gated : Bool) → beginning (window (empty_at 0) file) ≡ Some (place, gated) → Moved rest_in t (λ x. x) (empty_at 0) file f left
+blocks_of : (t : Window → ToCome) (f : FeedState) (file left : List ℕ) (place : ℕ) (gated : Bool) → preamble_in (window (empty_at 0) file) ≡ Some (place, gated) → Moved to_come_in t (λ x. x) (empty_at 0) file f left
     → gated ≡ true → OneDirectory (t (window f left)).paths
 blocks_of t f file left place gated begun moved asks p q before between behind all same =
     one_directory_a_block (window (empty_at 0) file) (ap asks_gate begun ∙ asks) p q before between behind (ap (λ (z : ToCome). z.paths) moved.whole ∙ all) same
@@ -204,7 +206,7 @@ seen_later false t t' f f' l l' n moved on fewer = sym moved.whole
 
 module _ (wanted : List ℕ → Bool) (bound : List ℕ → ℕ) (query : Query) (tests : Option Tests) (old new : Stand) (s s' : ℕ) (result : Outcome) where
   in_file : (t : Window → ToCome) (f f' : FeedState) (file mid left : List ℕ) (g g' g'' : ℕ) (gated : Bool) → is_gated file ≡ gated
-      → Moved rest_in t (λ x. x) (empty_at 0) file f mid → Draws f f' g' g'' (Some mid) (Some left) → Draws (empty_at 0) f' g g'' (Some file) (Some left) → reach f' ≤ 2 ^ 40
+      → Moved to_come_in t (λ x. x) (empty_at 0) file f mid → Draws f f' g' g'' (Some mid) (Some left) → Draws (empty_at 0) f' g g'' (Some file) (Some left) → reach f' ≤ 2 ^ 40
       → IfSome (tests_asked (gated || query.existing) tests) (λ told. SearchesKnown (rule_of wanted query gated told) bound t f (Some mid) (Some left) old new s s' result (reach f'))
       → SearchesFile wanted bound query file tests g g'' old new s s' result
   in_file t f f' file mid left g g' g'' gated same moved more drawn far done =
@@ -214,12 +216,12 @@ module _ (wanted : List ℕ → Bool) (bound : List ℕ → ℕ) (query : Query)
       (λ told. (result ≡ outcomes.ReadFault → g ≤ 2 ^ 63) → SearchesTo (rule_of wanted query gated told) bound (seen_in file (g'' - g) result) old new s s' result (g'' - g))
       (λ told known small.
       subst (λ (z : ToCome). SearchesTo (rule_of wanted query gated told) bound z old new s s' result (g'' - g))
-      (seen_later (is_read_fault result) rest_in t (empty_at 0) f file mid (length left) moved known.0 (fewer_left f f' g' g'' mid left more) ∙ seen_by f' g g'' file left result drawn far small)
+      (seen_later (is_read_fault result) to_come_in t (empty_at 0) f file mid (length left) moved known.0 (fewer_left f f' g' g'' mid left more) ∙ seen_by f' g g'' file left result drawn far small)
       (record { did = known.1.did; near = λ is. omega (arith, known.1.near is, drawn.count) }))
       done)
 
-  found_known : (t : Window → ToCome) (f f' : FeedState) (l l' l'' : Option (List ℕ)) (g g' g'' place : ℕ) (gated : Bool) → BeginsKnown beginning (empty_at 0) l place gated
-      → MovedKnown rest_in t (λ x. x) (empty_at 0) l f l' → Draws (empty_at 0) f g g' l l' → Draws f f' g' g'' l' l'' → reach f' ≤ 2 ^ 40
+  found_known : (t : Window → ToCome) (f f' : FeedState) (l l' l'' : Option (List ℕ)) (g g' g'' place : ℕ) (gated : Bool) → PreambleKnown preamble_in (empty_at 0) l place gated
+      → MovedKnown to_come_in t (λ x. x) (empty_at 0) l f l' → Draws (empty_at 0) f g g' l l' → Draws f f' g' g'' l' l'' → reach f' ≤ 2 ^ 40
       → (OneDirectoryLeft gated t f l' → IfSome (tests_asked (gated || query.existing) tests) (λ told. SearchesKnown (rule_of wanted query gated told) bound t f l' l'' old new s s' result (reach f')))
       → IfSome l (λ file. SearchesFile wanted bound query file tests g g'' old new s s' result)
   found_known t f f' None l' l'' g g' g'' place gated begun moved drawn more far done = tt
@@ -229,12 +231,12 @@ module _ (wanted : List ℕ → Bool) (bound : List ℕ → ℕ) (query : Query)
       in_file t f f' file mid left g g' g'' gated (gated_is file place gated begun) moved more (draws_then (empty_at 0) f f' g g' g'' (Some file) (Some mid) (Some left) drawn more) far
       (done (blocks_of t f file mid place gated begun moved))
 
-  pub opened_searched : (r : AnyReader) → r ≡ fresh → (t : Window → ToCome) (f f' : FeedState) (l l' l'' : Option (List ℕ)) (g g' g'' place : ℕ) (gated : Bool) → BeginsKnown beginning (feed_of r.stage) l place gated
+  pub opened_searched : (r : AnyReader) → r ≡ fresh → (t : Window → ToCome) (f f' : FeedState) (l l' l'' : Option (List ℕ)) (g g' g'' place : ℕ) (gated : Bool) → PreambleKnown preamble_in (feed_of r.stage) l place gated
       → MovedKnown (paths_left r.stage) t (λ x. x) (feed_of r.stage) l f l' → Draws (feed_of r.stage) f g g' l l' → Draws f f' g' g'' l' l'' → reach f' ≤ 2 ^ 40
       → (OneDirectoryLeft gated t f l' → IfSome (tests_asked (gated || query.existing) tests) (λ told. SearchesKnown (rule_of wanted query gated told) bound t f l' l'' old new s s' result (reach f')))
       → IfSome l (λ file. SearchesFile wanted bound query file tests g g'' old new s s' result)
   opened_searched r new' t f f' l l' l'' g g' g'' place gated begun moved drawn more far done =
-      found_known t f f' l l' l'' g g' g'' place gated (subst (λ (q : AnyReader). BeginsKnown beginning (feed_of q.stage) l place gated) new' begun)
+      found_known t f f' l l' l'' g g' g'' place gated (subst (λ (q : AnyReader). PreambleKnown preamble_in (feed_of q.stage) l place gated) new' begun)
       (subst (λ (q : AnyReader). MovedKnown (paths_left q.stage) t (λ x. x) (feed_of q.stage) l f l') new' moved) (subst (λ (q : AnyReader). Draws (feed_of q.stage) f g g' l l') new' drawn) more far done
 
   -- ---- where no call failed
@@ -266,14 +268,14 @@ module _ (wanted : List ℕ → Bool) (bound : List ℕ → ℕ) (query : Query)
 -- ---- whatever the gate answers
 
 module _ (bound : List ℕ → ℕ) (s s' : ℕ) (result : Outcome) where
-  ended_file : (l : Option (List ℕ)) → EndsWithinKnown bound rest_in (empty_at 0) l s s' result → IfSome l (λ file. EndsWithin bound (contents file) s s' result)
+  ended_file : (l : Option (List ℕ)) → EndsWithinKnown bound to_come_in (empty_at 0) l s s' result → IfSome l (λ file. EndsWithin bound (contents file) s s' result)
   ended_file None done = tt
-  ended_file (Some file) done = subst (λ (w : Window). EndsWithin bound (rest_in w) s s' result) (whole_window file) done
+  ended_file (Some file) done = subst (λ (w : Window). EndsWithin bound (to_come_in w) s s' result) (whole_window file) done
 
   pub ended_searched : (r : AnyReader) → r ≡ fresh → (t : Window → ToCome) (f : FeedState) (l l' : Option (List ℕ)) → MovedKnown (paths_left r.stage) t (λ x. x) (feed_of r.stage) l f l' → EndsWithinKnown bound t f l' s s' result
       → IfSome l (λ file. EndsWithin bound (contents file) s s' result)
   ended_searched r new t f l l' moved done =
-      ended_file l (ended_later bound rest_in t (empty_at 0) f l l' s s' result (subst (λ (q : AnyReader). MovedKnown (paths_left q.stage) t (λ x. x) (feed_of q.stage) l f l') new moved) done)
+      ended_file l (ended_later bound to_come_in t (empty_at 0) f l l' s s' result (subst (λ (q : AnyReader). MovedKnown (paths_left q.stage) t (λ x. x) (feed_of q.stage) l f l') new moved) done)
 
   pub ended_unopened : is_by_end result ≡ false → s' ≡ s → (files : Option Files) (name : List ℕ) → IfSome files (λ files. IfSome (map.get files name) (λ file. EndsWithin bound (contents file) s s' result))
   ended_unopened early same None name = tt
@@ -283,7 +285,7 @@ pub ended_begin : (bound : List ℕ → ℕ) (s : ℕ) (r : AnyReader) → r ≡
     → IfSome l (λ file. EndsWithin bound (contents file) s s (outcome_of (Err fault)))
 ended_begin bound s r new fault l l' ends =
     ended_file bound s s (outcome_of (Err fault)) l
-    (ended_end bound rest_in rest_in (empty_at 0) (empty_at 0) [] l l l' s s (omega arith) 0 0 (Err fault) (moved_none rest_in (empty_at 0) l)
+    (ended_end bound to_come_in to_come_in (empty_at 0) (empty_at 0) [] l l l' s s (omega arith) 0 0 (Err fault) (moved_none to_come_in (empty_at 0) l)
     (subst (λ (q : AnyReader). EndsKnown (paths_left q.stage) (no_paths 0 0) (feed_of q.stage) l l' (Err fault)) new ends))
 
 -- ---- how much was read

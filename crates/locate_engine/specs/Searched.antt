@@ -6,7 +6,8 @@ use Rattle.loc_outside.specs.Causes.{raised}
 use Rattle.byte_feed.specs.declared.damage.DbFault.TheVariants as faults
 use Rattle.byte_feed.specs.Front.{Window}
 use Rattle.byte_feed.specs.Feed.{FeedState, window, so_far}
-use Rattle.byte_feed.specs.Paths.{Ending, PathAt, ToCome}
+use Rattle.byte_feed.specs.Endings.{Ending}
+use Rattle.byte_feed.specs.Paths.{PathAt, ToCome}
 use Rattle.locate_engine.specs.Passing.{Rule, OneDirectory, passes, line_of, passing, lines, up_to, due}
 use Rattle.locate_engine.specs.declared.outcome.Outcome.{Outcome}
 use Rattle.locate_engine.specs.declared.outcome.Outcome.TheVariants as outcomes

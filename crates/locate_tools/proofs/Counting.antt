@@ -1,7 +1,7 @@
 -- What is written of a database that is counted.
 use Rattle.std.proofs.Common.{ℕ, List, Option}
 use Rattle.std.specs.Io.KnownBytes.{Appends}
-use Rattle.loc_outside.proofs.Parts.{part_all}
+use Rattle.loc_outside.proofs.PartTaken.{part_all}
 use Rattle.locate_engine.specs.declared.outcome.Outcome.{Outcome}
 use Rattle.locate_engine.specs.declared.outcome.Outcome.TheVariants as outcomes
 use Rattle.locate_tools.specs.Tried.{WritesAs}

@@ -19,7 +19,7 @@ use Rattle.locate_engine.specs.declared.query.Query.{Query}
 use Rattle.locate_engine.specs.declared.outcome.Outcome.{Outcome}
 use Rattle.locate_engine.specs.declared.outcome.Outcome.TheVariants as outcomes
 use Rattle.byte_feed.specs.declared.damage.DbFault.TheVariants as faults
-use Rattle.byte_feed.specs.Paths.{Ending}
+use Rattle.byte_feed.specs.Endings.{Ending}
 use Rattle.std.specs.Prelude.{Ok, Err}
 use Rattle.locate_tools.specs.Ran.{is_write_fault}
 use Rattle.locate_tools.specs.Standing.{Standing, Goes, IsComplete, ends_run}

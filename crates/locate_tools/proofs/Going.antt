@@ -3,7 +3,7 @@ use Rattle.std.proofs.Common.{◌≡◌, ℕ, ◌+◌, ◌<◌, ◌≤◌, ◌^�
 use Rattle.std.proofs.lemmas.List.{drop-map, drop_more, append-nil, length-map}
 use Rattle.std.proofs.KnownBytes.{Appends-trans}
 use Rattle.loc_outside.specs.Outside.{AppendsPart}
-use Rattle.loc_outside.proofs.Parts.{part_first, part_second}
+use Rattle.loc_outside.proofs.PartTaken.{part_first, part_second}
 use Rattle.locate_engine.specs.declared.outcome.Outcome.{Outcome}
 use Rattle.locate_tools.specs.Standing.{Standing, Goes, IsComplete, ends_run}
 use Rattle.loc_outside.specs.Files.{Files}

@@ -1,4 +1,4 @@
-pub mod Told
+pub mod MessagesAfter
 pub mod Going
 pub mod Finding
 pub mod CountingAll

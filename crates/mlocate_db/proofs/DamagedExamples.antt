@@ -7,7 +7,8 @@ use Rattle.byte_feed.specs.declared.damage.DbFault.TheVariants as faults
 use Rattle.byte_feed.specs.declared.damage.Stop.TheVariants.{Broken}
 use Rattle.byte_feed.specs.Field.{ended_at}
 use Rattle.byte_feed.specs.Front.{front, items_within, items_of, spelling}
-use Rattle.byte_feed.specs.Paths.{Ending, rest_of, contents}
+use Rattle.byte_feed.specs.Endings.{Ending}
+use Rattle.byte_feed.specs.Paths.{rest_of, contents}
 use Rattle.mlocate_db.specs.Items.{fixed_at, header_at, numbers_at, head_at, entry_at, room_in, number, Item, HeaderItem, HeadItem, EndItem, mlocate}
 
 -- the database of a root directory with nothing in it, of 91 bytes

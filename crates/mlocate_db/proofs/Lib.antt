@@ -1,11 +1,11 @@
-pub mod AheadReads
-mod DamagedExamples
-pub mod Entries
 pub mod ItemLaws
 pub mod ItemSizes
 pub mod ItemSteady
+pub mod Entries
 pub mod ItemSteps
 pub mod PathSteps
 pub mod ReaderSteps
 pub mod Starts
+pub mod AheadReads
 pub mod WrittenParts
+mod DamagedExamples

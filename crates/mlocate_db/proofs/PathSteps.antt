@@ -3,14 +3,16 @@ use Rattle.std.proofs.Common.{◌≡◌, ℕ, ◌+◌, List, [], ◌∷◌, ◌+
 use Rattle.std.proofs.lemmas.List.{take_all}
 use Rattle.path_order.specs.Path.{joined}
 use Rattle.path_order.specs.declared.kind.Kind.{Kind}
-use Rattle.byte_feed.specs.Paths.{ToCome, rest_of, to_come, after_item, after_paths, path_here, MovedKnown, EndsKnown, no_items, no_paths, Ending}
+use Rattle.byte_feed.specs.Endings.{Ending}
+use Rattle.byte_feed.specs.Paths.{ToCome, rest_of, to_come, after_item, after_paths, path_here, no_items, no_paths}
+use Rattle.byte_feed.specs.Calls.{MovedKnown, EndsKnown}
 use Rattle.byte_feed.proofs.Steps.{paths_by_items}
-use Rattle.byte_feed.proofs.Beginnings.{ends_paths}
+use Rattle.byte_feed.proofs.Preambles.{ends_paths}
 use Rattle.mlocate_db.specs.declared.db_reader.Stage.{Stage}
 use Rattle.mlocate_db.specs.declared.db_reader.Stage.TheVariants as stages
 use Rattle.mlocate_db.specs.declared.db_reader.Step.TheVariants as steps
 use Rattle.mlocate_db.specs.Items.{Item, HeadItem, EntryItem, EndItem, State, Between, Inside, in_directory, mlocate}
-use Rattle.mlocate_db.specs.Reader.{ReaderState, state_by, state_of, dir_of, rest_left, paths_left, path_found, StepGives, ShowsHead, ShowsEntry, ShowsEnd}
+use Rattle.mlocate_db.specs.Reader.{ReaderState, state_by, state_of, dir_of, items_left, paths_left, path_found, StepGives, ShowsHead, ShowsEntry, ShowsEnd}
 use Rattle.mlocate_db.proofs.ItemSteps.{joined_is}
 
 abbrev here : State → Item → ReaderState → ReaderState → ToCome → ToCome
@@ -18,7 +20,7 @@ here s i r r' z = after_paths (path_here r'.place r.heads (mlocate.path_of s i))
 
 -- items are given as paths, where the states are told apart
 by_states : (s s' : State) (i : Item) (r r' : ReaderState) (l l' : Option (List ℕ)) (given : ToCome → ToCome) → state_of r ≡ s → state_of r' ≡ s' → s' ≡ mlocate.after s i → r.heads + mlocate.head_of i ≡ r'.heads
-    → here s i r r' ≡ given → MovedKnown (rest_left r) (rest_left r') (after_item mlocate i) r.feed l r'.feed l' → MovedKnown (paths_left r) (paths_left r') given r.feed l r'.feed l'
+    → here s i r r' ≡ given → MovedKnown (items_left r) (items_left r') (after_item mlocate i) r.feed l r'.feed l' → MovedKnown (paths_left r) (paths_left r') given r.feed l r'.feed l'
 by_states s s' i r r' l l' given is is' after heads same m =
     let told : MovedKnown (rest_of mlocate s r.place) (rest_of mlocate s' r'.place) (after_item mlocate i) r.feed l r'.feed l' =
     subst (λ (t : State). MovedKnown (rest_of mlocate t r.place) (rest_of mlocate s' r'.place) (after_item mlocate i) r.feed l r'.feed l') is
@@ -64,7 +66,7 @@ entry_paths r r' l l' kind version shows m =
     (λ i. found (text i) (len i) (sym shows.heads i) r'.place) m
 
 -- the end, as that of paths
-pub step_ends : (r : ReaderState) (l l' : Option (List ℕ)) (e : Ending) (place heads : ℕ) → place ≡ r.place → heads ≡ r.heads → EndsKnown (rest_left r) (no_items mlocate r.place) r.feed l l' e → EndsKnown (paths_left r) (no_paths place heads) r.feed l l' e
+pub step_ends : (r : ReaderState) (l l' : Option (List ℕ)) (e : Ending) (place heads : ℕ) → place ≡ r.place → heads ≡ r.heads → EndsKnown (items_left r) (no_items mlocate r.place) r.feed l l' e → EndsKnown (paths_left r) (no_paths place heads) r.feed l l' e
 step_ends r l l' e place heads at count h =
     subst (λ (n : ℕ). EndsKnown (paths_left r) (no_paths n heads) r.feed l l' e) (sym at)
     (subst (λ (n : ℕ). EndsKnown (paths_left r) (no_paths r.place n) r.feed l l' e) (sym count)

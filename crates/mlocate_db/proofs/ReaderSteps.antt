@@ -14,7 +14,9 @@ use Rattle.byte_feed.specs.Field.{IsText}
 use Rattle.byte_feed.specs.Front.{limit, Window}
 use Rattle.byte_feed.specs.Feed.{FeedState, file, window, TookKnown, IsAllAhead}
 use Rattle.byte_feed.specs.Stream.{StreamGives}
-use Rattle.byte_feed.specs.Paths.{Ending, Rest, rest_of, after_item, no_items, end_at, MovedKnown, EndsKnown, fault_at}
+use Rattle.byte_feed.specs.Endings.{Ending, end_at, fault_at}
+use Rattle.byte_feed.specs.Paths.{Rest, rest_of, after_item, no_items}
+use Rattle.byte_feed.specs.Calls.{MovedKnown, EndsKnown}
 use Rattle.byte_feed.proofs.TakenOff.{file_open, file_shut, window_took, more_took}
 use Rattle.byte_feed.proofs.Wants.{all_ahead, looked_fault}
 use Rattle.byte_feed.proofs.Steps.{step_ok, step_err, step_fault, rest_none, NotEnd}
@@ -27,27 +29,27 @@ use Rattle.mlocate_db.specs.declared.item.Listed.TheVariants as listeds
 use Rattle.mlocate_db.specs.declared.item.Numbers.{Numbers}
 use Rattle.mlocate_db.specs.Items.{Head, Item, HeadItem, EntryItem, Between, Inside, in_directory, room_in, numbers_at, as_head, head_at, entry_at, item_at, mlocate}
 use Rattle.mlocate_db.specs.StreamItems.{listed_item, item_in, ListedAt}
-use Rattle.mlocate_db.specs.Reader.{ReaderState, state_by, dir_of, rest_left, StepGives}
+use Rattle.mlocate_db.specs.Reader.{ReaderState, state_by, dir_of, items_left, StepGives}
 use Rattle.mlocate_db.proofs.ItemSizes.{mlocate_shrinks}
 use Rattle.mlocate_db.proofs.ItemSteps.{head_lifted, entry_lifted, numbers_want, path_then, head_parts}
 
 -- ---- a reader whose parts are told apart
 
-abbrev rest_by : Stage → ℕ → List ℕ → ℕ → Window → Rest mlocate
-rest_by s v dir p w = rest_of mlocate (state_by s v dir) p w
+abbrev items_by : Stage → ℕ → List ℕ → ℕ → Window → Rest mlocate
+items_by s v dir p w = rest_of mlocate (state_by s v dir) p w
 
-pub left_is : (r : ReaderState) (s : Stage) (v : ℕ) (dir : List ℕ) (p : ℕ) → r.stage ≡ s → r.version ≡ v → dir_of r ≡ dir → r.place ≡ p → (λ (w : Window). rest_of mlocate (state_by s v dir) p w) ≡ rest_left r
+pub left_is : (r : ReaderState) (s : Stage) (v : ℕ) (dir : List ℕ) (p : ℕ) → r.stage ≡ s → r.version ≡ v → dir_of r ≡ dir → r.place ≡ p → (λ (w : Window). rest_of mlocate (state_by s v dir) p w) ≡ items_left r
 left_is r s v dir p stage version dir_is place =
-    λ i. rest_by (sym stage i) (sym version i) (sym dir_is i) (sym place i)
+    λ i. items_by (sym stage i) (sym version i) (sym dir_is i) (sym place i)
 
-pub moved_left : (r r' : ReaderState) (t t' : Window → Rest mlocate) (i j : Item) (l l' : Option (List ℕ)) → t ≡ rest_left r → t' ≡ rest_left r' → i ≡ j
-    → MovedKnown t t' (after_item mlocate i) r.feed l r'.feed l' → MovedKnown (rest_left r) (rest_left r') (after_item mlocate j) r.feed l r'.feed l'
+pub moved_left : (r r' : ReaderState) (t t' : Window → Rest mlocate) (i j : Item) (l l' : Option (List ℕ)) → t ≡ items_left r → t' ≡ items_left r' → i ≡ j
+    → MovedKnown t t' (after_item mlocate i) r.feed l r'.feed l' → MovedKnown (items_left r) (items_left r') (after_item mlocate j) r.feed l r'.feed l'
 moved_left r r' t t' i j l l' before after same m =
-    subst (λ (b : Window → Rest mlocate). MovedKnown b (rest_left r') (after_item mlocate j) r.feed l r'.feed l') before
+    subst (λ (b : Window → Rest mlocate). MovedKnown b (items_left r') (after_item mlocate j) r.feed l r'.feed l') before
     (subst (λ (a : Window → Rest mlocate). MovedKnown t a (after_item mlocate j) r.feed l r'.feed l') after
     (subst (λ (x : Item). MovedKnown t t' (after_item mlocate x) r.feed l r'.feed l') same m))
 
-pub ends_left : (r : ReaderState) (t : Window → Rest mlocate) (p : ℕ) (l l' : Option (List ℕ)) (e : ℕ → Ending) → t ≡ rest_left r → p ≡ r.place → EndsKnown t (no_items mlocate p) r.feed l l' (e p) → EndsKnown (rest_left r) (no_items mlocate r.place) r.feed l l' (e r.place)
+pub ends_left : (r : ReaderState) (t : Window → Rest mlocate) (p : ℕ) (l l' : Option (List ℕ)) (e : ℕ → Ending) → t ≡ items_left r → p ≡ r.place → EndsKnown t (no_items mlocate p) r.feed l l' (e p) → EndsKnown (items_left r) (no_items mlocate r.place) r.feed l l' (e r.place)
 ends_left r t p l l' e before place m =
     subst (λ (b : Window → Rest mlocate). EndsKnown b (no_items mlocate r.place) r.feed l l' (e r.place)) before
     (subst (λ (n : ℕ). EndsKnown t (no_items mlocate n) r.feed l l' (e n)) place m)

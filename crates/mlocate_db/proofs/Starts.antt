@@ -7,17 +7,19 @@ use Rattle.byte_feed.specs.Field.{bytes_at, text_at, max_path}
 use Rattle.byte_feed.specs.Feed.{FeedState}
 use Rattle.byte_feed.specs.Front.{Window}
 use Rattle.byte_feed.specs.Stream.{StreamGives, MatchesKnown}
-use Rattle.byte_feed.specs.Paths.{Rest, rest_of, no_items, MovedKnown, EndsKnown, BeginsKnown, UnbegunKnown, beginning_of, fault_at, to_come, after_paths, path_here, no_paths}
+use Rattle.byte_feed.specs.Endings.{fault_at}
+use Rattle.byte_feed.specs.Paths.{Rest, rest_of, no_items, preamble_of, to_come, after_paths, path_here, no_paths}
+use Rattle.byte_feed.specs.Calls.{MovedKnown, EndsKnown, PreambleKnown, NoPreambleKnown}
 use Rattle.byte_feed.proofs.Streams.{stream_then, stream_err, stream_ok, stream_same}
 use Rattle.byte_feed.proofs.Steps.{step_ok, step_err, NotEnd, item_len, paths_by_items}
-use Rattle.byte_feed.proofs.Beginnings.{beginning_some, unbegun, ends_paths}
+use Rattle.byte_feed.proofs.Preambles.{preamble_some, no_preamble, ends_paths}
 use Rattle.byte_feed.proofs.Takes.{bytes_again}
 use Rattle.mlocate_db.specs.declared.item.Fixed.{Fixed}
 use Rattle.mlocate_db.specs.declared.db_reader.Stage.{Stage}
 use Rattle.mlocate_db.specs.declared.db_reader.Stage.TheVariants as stages
 use Rattle.mlocate_db.specs.Items.{Header, HeaderItem, State, AtStart, Between, fixed_at, as_header, header_at, path_of, mlocate}
 use Rattle.mlocate_db.specs.StreamItems.{HeaderKnown}
-use Rattle.mlocate_db.specs.Reader.{ReaderState, state_by, state_of, dir_of, is_fresh, rest_left, paths_left, HeaderGives, StartKnown}
+use Rattle.mlocate_db.specs.Reader.{ReaderState, state_by, state_of, dir_of, is_fresh, items_left, paths_left, HeaderGives, StartKnown}
 use Rattle.mlocate_db.proofs.ItemSizes.{mlocate_shrinks}
 use Rattle.mlocate_db.proofs.ItemSteps.{root_then, block_then, header_parts, header_lifted, header_broken}
 use Rattle.mlocate_db.proofs.ReaderSteps.{left_is, moved_left, ends_left}
@@ -115,7 +117,7 @@ header_err expected root f f' (Some a) (Some b) e h = h
 
 -- no whole header stands there
 pub not_started : (r r' : ReaderState) (l l' : Option (List ℕ)) (expected root : List ℕ) (e : Break) → r.stage ≡ stages.Fresh → r.place ≡ r.feed.offset → HeaderKnown expected root r.feed l r'.feed l' (Err e)
-    → EndsKnown (rest_left r) (no_items mlocate r.place) r.feed l l' (Err (fault_at r.place e))
+    → EndsKnown (items_left r) (no_items mlocate r.place) r.feed l l' (Err (fault_at r.place e))
 not_started r r' l l' expected root e stage at h =
     ends_left r _ r.feed.offset l l' (λ p. Err (fault_at p e)) (left_is r stages.Fresh r.version (dir_of r) r.feed.offset stage refl refl at) (sym at)
     (step_err mlocate mlocate_shrinks AtStart (λ (_ : Unit {0}). record { version = 0; flag = false; padding = 0; root = []; block = [] }) HeaderItem header_at header_lifted r.feed r'.feed l l' e (never_end r.feed l) (header_err expected root r.feed r'.feed l l' e h))
@@ -128,19 +130,19 @@ header_given r r' (Some a) (Some b) root block same u s = s.begins
 
 -- ---- as paths
 
-fresh_left : (r : ReaderState) (w : Window) → r.stage ≡ stages.Fresh → rest_left r w ≡ rest_of mlocate AtStart r.place w
+fresh_left : (r : ReaderState) (w : Window) → r.stage ≡ stages.Fresh → items_left r w ≡ rest_of mlocate AtStart r.place w
 fresh_left r w stage = ap (λ (t : Stage). rest_of mlocate (state_by t r.version (dir_of r)) r.place w) stage
 
-pub begun : (r r' : ReaderState) (l l' : Option (List ℕ)) (u : Unit {0}) → r.stage ≡ stages.Fresh → r.place ≡ 0 → HeaderGives (Ok u) r l r' l' → BeginsKnown (beginning_of mlocate) r.feed l r'.place r'.flag
-begun r r' None l' u stage none h = tt
-begun r r' (Some a) None u stage none h = absurd h
-begun r r' (Some a) (Some b) u stage none h =
+pub preamble_whole : (r r' : ReaderState) (l l' : Option (List ℕ)) (u : Unit {0}) → r.stage ≡ stages.Fresh → r.place ≡ 0 → HeaderGives (Ok u) r l r' l' → PreambleKnown (preamble_of mlocate) r.feed l r'.place r'.flag
+preamble_whole r r' None l' u stage none h = tt
+preamble_whole r r' (Some a) None u stage none h = absurd h
+preamble_whole r r' (Some a) (Some b) u stage none h =
     let whole = sym (fresh_left r _ stage) ∙ h.moved.whole in
     let len : length (mlocate.spell (HeaderItem h.header)) ≡ r'.place = omega (arith, none, item_len mlocate AtStart (state_of r') r.place r'.place _ _ (HeaderItem h.header) whole) in
     let shown : ℕ → Bool → Option (ℕ × Bool) = λ n g. Some (n, g) in
-    beginning_some mlocate mlocate_shrinks r.place _ (HeaderItem h.header) _ whole ∙ ap (λ (n : ℕ). shown n h.header.flag) len ∙ ap (λ (g : Bool). shown r'.place g) (sym h.flag)
+    preamble_some mlocate mlocate_shrinks r.place _ (HeaderItem h.header) _ whole ∙ ap (λ (n : ℕ). shown n h.header.flag) len ∙ ap (λ (g : Bool). shown r'.place g) (sym h.flag)
 
-left_fresh : (r : ReaderState) → r.stage ≡ stages.Fresh → rest_left r ≡ (λ (w : Window). rest_of mlocate AtStart r.place w)
+left_fresh : (r : ReaderState) → r.stage ≡ stages.Fresh → items_left r ≡ (λ (w : Window). rest_of mlocate AtStart r.place w)
 left_fresh r stage = λ i w. rest_of mlocate (state_by (stage i) r.version (dir_of r)) r.place w
 
 fresh_state : (r : ReaderState) → r.stage ≡ stages.Fresh → AtStart ≡ state_of r
@@ -157,19 +159,19 @@ bare r r' a b header stage m =
     subst (λ (s : State). MovedKnown (paths_left r) (to_come mlocate (state_of r') r'.place (r.heads + 0)) (after_paths (path_here r'.place r.heads (path_of s (HeaderItem header)))) r.feed (Some a) r'.feed (Some b)) (sym (fresh_state r stage)) m
 
 -- the paths to come are the same behind the header
-pub paths_begun : (r r' : ReaderState) (l l' : Option (List ℕ)) (u : Unit {0}) → r.stage ≡ stages.Fresh → r'.heads ≡ r.heads → HeaderGives (Ok u) r l r' l' → MovedKnown (paths_left r) (paths_left r') (λ t. t) r.feed l r'.feed l'
-paths_begun r r' None l' u stage heads h = tt
-paths_begun r r' (Some a) None u stage heads h = absurd h
-paths_begun r r' (Some a) (Some b) u stage heads h =
+pub preamble_moves : (r r' : ReaderState) (l l' : Option (List ℕ)) (u : Unit {0}) → r.stage ≡ stages.Fresh → r'.heads ≡ r.heads → HeaderGives (Ok u) r l r' l' → MovedKnown (paths_left r) (paths_left r') (λ t. t) r.feed l r'.feed l'
+preamble_moves r r' None l' u stage heads h = tt
+preamble_moves r r' (Some a) None u stage heads h = absurd h
+preamble_moves r r' (Some a) (Some b) u stage heads h =
     let same : r.heads + 0 ≡ r'.heads = omega (arith, heads) in
     let m = paths_by_items mlocate (state_of r) (state_of r') r.place r'.place r.heads (HeaderItem h.header) r.feed r'.feed (Some a) (Some b) (between_state r' h.header.version h.between h.version) h.moved in
     subst (λ (n : ℕ). MovedKnown (paths_left r) (to_come mlocate (state_of r') r'.place n) (λ t. t) r.feed (Some a) r'.feed (Some b)) same (bare r r' a b h.header stage m)
 
-pub paths_unbegun : (r : ReaderState) (l l' : Option (List ℕ)) (e : DbFault) → r.stage ≡ stages.Fresh → EndsKnown (rest_left r) (no_items mlocate r.place) r.feed l l' (Err e) → UnbegunKnown (beginning_of mlocate) r.feed l l' e
-paths_unbegun r l l' e stage h = unbegun mlocate mlocate_shrinks r.place r.place r.feed l l' e (subst (λ (t : Window → Rest mlocate). EndsKnown t (no_items mlocate r.place) r.feed l l' (Err e)) (left_fresh r stage) h)
+pub preamble_lacks : (r : ReaderState) (l l' : Option (List ℕ)) (e : DbFault) → r.stage ≡ stages.Fresh → EndsKnown (items_left r) (no_items mlocate r.place) r.feed l l' (Err e) → NoPreambleKnown (preamble_of mlocate) r.feed l l' e
+preamble_lacks r l l' e stage h = no_preamble mlocate mlocate_shrinks r.place r.place r.feed l l' e (subst (λ (t : Window → Rest mlocate). EndsKnown t (no_items mlocate r.place) r.feed l l' (Err e)) (left_fresh r stage) h)
 
-pub paths_ended : (r : ReaderState) (l l' : Option (List ℕ)) (e : DbFault) → r.place ≡ 0 → r.heads ≡ 0 → EndsKnown (rest_left r) (no_items mlocate r.place) r.feed l l' (Err e) → EndsKnown (paths_left r) (no_paths 0 0) r.feed l l' (Err e)
-paths_ended r l l' e place heads h =
+pub preamble_ends : (r : ReaderState) (l l' : Option (List ℕ)) (e : DbFault) → r.place ≡ 0 → r.heads ≡ 0 → EndsKnown (items_left r) (no_items mlocate r.place) r.feed l l' (Err e) → EndsKnown (paths_left r) (no_paths 0 0) r.feed l l' (Err e)
+preamble_ends r l l' e place heads h =
     let m = ends_paths mlocate (state_of r) r.place r.place r.heads r.feed l l' (Err e) h in
     subst (λ (n : ℕ). EndsKnown (paths_left r) (no_paths 0 n) r.feed l l' (Err e)) heads (subst (λ (n : ℕ). EndsKnown (paths_left r) (no_paths n r.heads) r.feed l l' (Err e)) place m)
 
@@ -184,21 +186,21 @@ fresh_is stages.Done e = absurd cc
 pub fresh_stage : (s : Stage) → IsTrue (is_fresh s) → s ≡ stages.Fresh
 fresh_stage s e = fresh_is s e
 
-pub begun_by : (r r' : ReaderState) (l l' : Option (List ℕ)) (result : Result (Unit {0}) DbFault) → IsTrue (is_fresh r.stage) → r.place ≡ 0 → HeaderGives result r l r' l' → OnOk result (BeginsKnown (beginning_of mlocate) r.feed l r'.place r'.flag)
-begun_by r r' l l' (Ok u) fresh place h = begun r r' l l' u (fresh_is r.stage fresh) place h
-begun_by r r' l l' (Err e) fresh place h = tt
+pub preamble_whole_by : (r r' : ReaderState) (l l' : Option (List ℕ)) (result : Result (Unit {0}) DbFault) → IsTrue (is_fresh r.stage) → r.place ≡ 0 → HeaderGives result r l r' l' → OnOk result (PreambleKnown (preamble_of mlocate) r.feed l r'.place r'.flag)
+preamble_whole_by r r' l l' (Ok u) fresh place h = preamble_whole r r' l l' u (fresh_is r.stage fresh) place h
+preamble_whole_by r r' l l' (Err e) fresh place h = tt
 
 pub moved_by : (r r' : ReaderState) (l l' : Option (List ℕ)) (result : Result (Unit {0}) DbFault) → IsTrue (is_fresh r.stage) → r'.heads ≡ r.heads → HeaderGives result r l r' l' → OnOk result (MovedKnown (paths_left r) (paths_left r') (λ t. t) r.feed l r'.feed l')
-moved_by r r' l l' (Ok u) fresh heads h = paths_begun r r' l l' u (fresh_is r.stage fresh) heads h
+moved_by r r' l l' (Ok u) fresh heads h = preamble_moves r r' l l' u (fresh_is r.stage fresh) heads h
 moved_by r r' l l' (Err e) fresh heads h = tt
 
-pub unbegun_by : (r r' : ReaderState) (l l' : Option (List ℕ)) (result : Result (Unit {0}) DbFault) → IsTrue (is_fresh r.stage) → HeaderGives result r l r' l' → IfErr result (λ e. UnbegunKnown (beginning_of mlocate) r.feed l l' e)
-unbegun_by r r' l l' (Ok u) fresh h = tt
-unbegun_by r r' l l' (Err e) fresh h = paths_unbegun r l l' e (fresh_is r.stage fresh) h
+pub preamble_lacks_by : (r r' : ReaderState) (l l' : Option (List ℕ)) (result : Result (Unit {0}) DbFault) → IsTrue (is_fresh r.stage) → HeaderGives result r l r' l' → IfErr result (λ e. NoPreambleKnown (preamble_of mlocate) r.feed l l' e)
+preamble_lacks_by r r' l l' (Ok u) fresh h = tt
+preamble_lacks_by r r' l l' (Err e) fresh h = preamble_lacks r l l' e (fresh_is r.stage fresh) h
 
 pub ended_by : (r r' : ReaderState) (l l' : Option (List ℕ)) (result : Result (Unit {0}) DbFault) → r.place ≡ 0 → r.heads ≡ 0 → HeaderGives result r l r' l' → IfErr result (λ e. EndsKnown (paths_left r) (no_paths 0 0) r.feed l l' (Err e))
 ended_by r r' l l' (Ok u) place heads h = tt
-ended_by r r' l l' (Err e) place heads h = paths_ended r l l' e place heads h
+ended_by r r' l l' (Err e) place heads h = preamble_ends r l l' e place heads h
 
 pub stays_by : (r r' : ReaderState) (result : Result (Unit {0}) DbFault) → r.place ≡ 0 → OnErr result (r'.place ≡ r.place) → OnErr result (r'.place ≡ 0)
 stays_by r r' (Ok u) place h = tt

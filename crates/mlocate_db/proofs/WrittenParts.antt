@@ -6,7 +6,7 @@ use Rattle.std.proofs.Math.Seq.{take-append-add}
 use Rattle.std.proofs.KnownBytes.{Appends-trans}
 use Rattle.std.specs.Io.KnownBytes.{Appends}
 use Rattle.loc_outside.specs.Outside.{AppendsPart, AppendsShort}
-use Rattle.loc_outside.proofs.Parts.{part_second}
+use Rattle.loc_outside.proofs.PartTaken.{part_second}
 
 abbrev KnownBytes : Type 0
 KnownBytes = Option (List ℕ)

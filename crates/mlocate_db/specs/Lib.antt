@@ -1,3 +1,3 @@
 pub mod Items
-pub mod Reader
 pub mod StreamItems
+pub mod Reader

@@ -6,7 +6,9 @@ use Rattle.byte_feed.specs.declared.damage.DbFault.{DbFault}
 use Rattle.byte_feed.specs.Front.{Window}
 use Rattle.byte_feed.specs.Feed.{FeedState}
 use Rattle.byte_feed.specs.Field.{IsText}
-use Rattle.byte_feed.specs.Paths.{Rest, PathAt, ToCome, rest_of, to_come, after_item, no_items, fault_at, Moved, MovedKnown, EndsKnown}
+use Rattle.byte_feed.specs.Endings.{fault_at}
+use Rattle.byte_feed.specs.Paths.{Rest, PathAt, ToCome, rest_of, to_come, after_item, no_items}
+use Rattle.byte_feed.specs.Calls.{Moved, MovedKnown, EndsKnown}
 use Rattle.mlocate_db.specs.declared.db_reader.Stage.{Stage}
 use Rattle.mlocate_db.specs.declared.db_reader.Stage.TheVariants as stages
 use Rattle.mlocate_db.specs.declared.db_reader.Step.{Step}
@@ -74,8 +76,8 @@ abbrev pub state_of : ReaderState → State
 state_of r = state_by r.stage r.version (dir_of r)
 
 -- the items that are left, and how the file ends after them
-abbrev pub rest_left : ReaderState → Window → Rest mlocate
-rest_left r w = rest_of mlocate (state_of r) r.place w
+abbrev pub items_left : ReaderState → Window → Rest mlocate
+items_left r w = rest_of mlocate (state_of r) r.place w
 
 -- the same as paths
 abbrev pub paths_left : ReaderState → Window → ToCome
@@ -96,9 +98,9 @@ item_shown steps.End r = EndItem
 
 -- The item was given off the rest of the file, or none is left and the file ends so.
 abbrev pub StepGives : Result Step DbFault → ReaderState → Option (List ℕ) → ReaderState → Option (List ℕ) → Type 0
-StepGives (Ok steps.End) r left r' left' = EndsKnown (rest_left r) (no_items mlocate r.place) r.feed left left' (Ok tt)
-StepGives (Ok step) r left r' left' = MovedKnown (rest_left r) (rest_left r') (after_item mlocate (item_shown step r')) r.feed left r'.feed left'
-StepGives (Err fault) r left r' left' = EndsKnown (rest_left r) (no_items mlocate r.place) r.feed left left' (Err fault)
+StepGives (Ok steps.End) r left r' left' = EndsKnown (items_left r) (no_items mlocate r.place) r.feed left left' (Ok tt)
+StepGives (Ok step) r left r' left' = MovedKnown (items_left r) (items_left r') (after_item mlocate (item_shown step r')) r.feed left r'.feed left'
+StepGives (Err fault) r left r' left' = EndsKnown (items_left r) (no_items mlocate r.place) r.feed left left' (Err fault)
 
 -- the same, where a part of the item broke off
 abbrev pub StepBreaks : Result Step Break → ReaderState → Option (List ℕ) → ReaderState → Option (List ℕ) → Type 0
@@ -171,9 +173,9 @@ pub record Stepped {E : Type 0} (result : Result Step E) (r r' : ReaderState) : 
 -- ---- the header
 
 -- This header was given off the front of the file. The path in hand is its root.
-pub record Begins (r : ReaderState) (left : List ℕ) (r' : ReaderState) (left' : List ℕ) : Type 0 where
+pub record HeaderGiven (r : ReaderState) (left : List ℕ) (r' : ReaderState) (left' : List ℕ) : Type 0 where
   pub header : Header
-  pub moved : Moved (rest_left r) (rest_left r') (after_item mlocate (HeaderItem header)) r.feed left r'.feed left'
+  pub moved : Moved (items_left r) (items_left r') (after_item mlocate (HeaderItem header)) r.feed left r'.feed left'
   pub between : r'.stage ≡ stages.Between
   pub version : r'.version ≡ header.version
   pub flag : r'.flag ≡ header.flag
@@ -183,19 +185,19 @@ pub record Begins (r : ReaderState) (left : List ℕ) (r' : ReaderState) (left' 
 abbrev pub HeaderGives : Result (Unit {0}) DbFault → ReaderState → Option (List ℕ) → ReaderState → Option (List ℕ) → Type 0
 HeaderGives (Ok x) r None r' left' = ⊤
 HeaderGives (Ok x) r (Some l) r' None = ⊥
-HeaderGives (Ok x) r (Some l) r' (Some l') = Begins r l r' l'
-HeaderGives (Err fault) r left r' left' = EndsKnown (rest_left r) (no_items mlocate r.place) r.feed left left' (Err fault)
+HeaderGives (Ok x) r (Some l) r' (Some l') = HeaderGiven r l r' l'
+HeaderGives (Err fault) r left r' left' = EndsKnown (items_left r) (no_items mlocate r.place) r.feed left left' (Err fault)
 
 -- the same, and the answer tells whether the header's root and configuration block are these
 pub record Starts (r : ReaderState) (left : List ℕ) (r' : ReaderState) (left' : List ℕ) (root block : List ℕ) (same : Bool) : Type 0 where
-  pub begins : Begins r left r' left'
+  pub begins : HeaderGiven r left r' left'
   pub is_same : same ≡ true ↔ (begins.header.root ≡ root) × (begins.header.block ≡ block)
 
 abbrev pub StartKnown : Result Bool DbFault → ReaderState → Option (List ℕ) → ReaderState → Option (List ℕ) → List ℕ → List ℕ → Type 0
 StartKnown (Ok same) r None r' left' root block = ⊤
 StartKnown (Ok same) r (Some l) r' None root block = ⊥
 StartKnown (Ok same) r (Some l) r' (Some l') root block = Starts r l r' l' root block same
-StartKnown (Err fault) r left r' left' root block = EndsKnown (rest_left r) (no_items mlocate r.place) r.feed left left' (Err fault)
+StartKnown (Err fault) r left r' left' root block = EndsKnown (items_left r) (no_items mlocate r.place) r.feed left left' (Err fault)
 
 -- What a start leaves besides. Nothing was read before it, and it reads no head. Where the header is whole, the place
 -- moves to its end, the feed stands there, and a head is read next; else the place stays.

@@ -2,7 +2,8 @@
 ghost use Rattle.std.specs.Prelude.{◌≡◌, ◌+◌, ◌≤◌, ◌<◌, ◌^◌, ◌↔◌, [], true, false, length, take, Ok, Err, IfOk, IfErr, OnOk, OnErr, IsTrue, IsErrOf, is_ok};
 ghost use Rattle.loc_outside.specs.Causes.{Rose};
 ghost use Rattle.byte_feed.specs.Feed.{empty_at};
-ghost use Rattle.byte_feed.specs.Paths.{beginning_of, StopsAt};
+ghost use Rattle.byte_feed.specs.Endings.{StopsAt};
+ghost use Rattle.byte_feed.specs.Paths.{preamble_of};
 ghost use Rattle.byte_feed.specs.Stream.{IsFault, BreaksAt};
 ghost use Rattle.mlocate_db.specs.Items.{mlocate};
 ghost use Rattle.mlocate_db.specs.StreamItems.{ReadsAhead};
@@ -346,7 +347,7 @@ fn is_same(so_far: bool, bytes: &[u8], those: &[u8]) -> bool
 impl PathStream for DbReader {
     ghost feed = { λ r. r.feed };
 
-    ghost beginning = { λ r. beginning_of mlocate };
+    ghost preamble = { λ r. preamble_of mlocate };
 
     ghost to_come = { λ r. paths_left r };
 

@@ -10,14 +10,14 @@ use Rattle.path_order.specs.NameList.{Listed}
 use Rattle.path_order.specs.Stamp.{Moment}
 use Rattle.loc_outside.specs.Outside.{AppendsPart}
 use Rattle.loc_outside.specs.Trees.{Dir, Dirs}
-use Rattle.loc_outside.proofs.Parts.{part_first, part_second, part_none}
+use Rattle.loc_outside.proofs.PartTaken.{part_first, part_second, part_none}
 use Rattle.mlocate_db.specs.Items.{EndItem, spell}
 use Rattle.tree_scan.specs.Blocks.{block, block_pieces, block_text, device_in, echo_text, header, scan_pieces, scan_text, entry_text, head_text, line, lines, lines_of, pieces, stamped, time_of}
 use Rattle.tree_scan.specs.Admitted.{admitted}
 use Rattle.tree_scan.specs.Plan.{Plan}
 use Rattle.tree_scan.specs.Reach.{reached}
 use Rattle.tree_scan.specs.Walks.{LinesFollow}
-use Rattle.tree_scan.proofs.Pieces.{Known, some_is, not_none}
+use Rattle.tree_scan.proofs.WrittenNames.{Known, some_is, not_none}
 
 abbrev pub Pieces : Type 0
 Pieces = List (List ℕ × List ℕ)

@@ -7,11 +7,11 @@ pub mod Order
 pub mod Walk
 pub mod Sorted
 pub mod Members
-pub mod Parts
+pub mod PathNames
 pub mod Same
 pub mod Texts
-pub mod Pieces
-pub mod Told
+pub mod WrittenNames
+pub mod TreeAnswers
 pub mod Sorting
 pub mod Asking
 pub mod Loop

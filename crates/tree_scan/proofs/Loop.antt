@@ -9,7 +9,7 @@ use Rattle.std.proofs.KnownBytes.{Appends-nil, Appends-trans}
 use Rattle.path_order.specs.Stamp.{Moment}
 use Rattle.loc_outside.specs.Causes.{raised}
 use Rattle.loc_outside.specs.Outside.{AppendsPart}
-use Rattle.loc_outside.proofs.Parts.{part_first, part_second, part_none}
+use Rattle.loc_outside.proofs.PartTaken.{part_first, part_second, part_none}
 use Rattle.loc_outside.specs.Trees.{Dir, Dirs}
 use Rattle.tree_scan.specs.Admitted.{admitted, paths_in}
 use Rattle.tree_scan.specs.Blocks.{block, entries_of, header, lines, pieces, time_of, scan_pieces, scan_text, echo_text}
@@ -24,7 +24,7 @@ use Rattle.tree_scan.proofs.Lists.{Each, Has, Rises, each_more, each_append, has
 pub use Rattle.tree_scan.proofs.Past.{Found}
 use Rattle.tree_scan.proofs.Past.{Past, past_more}
 use Rattle.tree_scan.proofs.Same.{walk_is_led}
-use Rattle.tree_scan.proofs.Told.{here_tried, filter_append, filter_short, one}
+use Rattle.tree_scan.proofs.TreeAnswers.{here_tried, filter_append, filter_short, one}
 use Rattle.tree_scan.proofs.Sorted.{Apart, Under}
 use Rattle.tree_scan.proofs.Walk.{subtree_is}
 

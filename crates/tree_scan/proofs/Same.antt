@@ -15,7 +15,7 @@ use Rattle.tree_scan.proofs.Order.{Before, path_total, path_same}
 use Rattle.tree_scan.proofs.Walk.{walk, subtree}
 use Rattle.tree_scan.proofs.Sorted.{ByPath, walk_rises}
 use Rattle.tree_scan.proofs.Members.{Led, walk_led, led_walked, leads_found}
-use Rattle.tree_scan.proofs.Parts.{led_reaches, led_is}
+use Rattle.tree_scan.proofs.PathNames.{led_reaches, led_is}
 
 both : (a b : Bool) → a ≡ true → T b → T (a && b)
 both true b e h = h

@@ -25,7 +25,7 @@ use Rattle.tree_scan.proofs.Order.{Before, path_total}
 use Rattle.tree_scan.proofs.Past.{Past}
 use Rattle.tree_scan.proofs.Same.{walk_is_led}
 use Rattle.tree_scan.proofs.Sorted.{Apart, Under, before_child, here_by, joined_no_root, next_children, walk_under}
-use Rattle.tree_scan.proofs.Told.{filter_append, here_open, one}
+use Rattle.tree_scan.proofs.TreeAnswers.{filter_append, here_open, one}
 use Rattle.tree_scan.proofs.Walk.{subtree_is}
 
 abbrev Later : List ℕ → List ℕ × Dir → Type 0

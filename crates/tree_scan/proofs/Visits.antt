@@ -7,7 +7,7 @@ use Rattle.path_order.specs.NameList.{Listed}
 use Rattle.path_order.specs.Stamp.{Moment}
 use Rattle.loc_outside.specs.Causes.{raised}
 use Rattle.loc_outside.specs.Outside.{AppendsPart}
-use Rattle.loc_outside.proofs.Parts.{part_none}
+use Rattle.loc_outside.proofs.PartTaken.{part_none}
 use Rattle.loc_outside.specs.Trees.{Dir, Dirs}
 use Rattle.tree_scan.specs.Admitted.{admitted, paths_in}
 use Rattle.tree_scan.specs.Blocks.{block, block_pieces, block_text, entries_of, lines, lines_of, pieces, stamped, time_of}
@@ -18,7 +18,7 @@ use Rattle.tree_scan.specs.Steps.{here, weight}
 use Rattle.tree_scan.specs.Walks.{Passes, Breaks, LinesFollow, AddsChildren, opens, standing}
 use Rattle.tree_scan.specs.declared.progress.Progress.{Progress}
 use Rattle.tree_scan.proofs.Follows.{Pieces, follows_none}
-use Rattle.tree_scan.proofs.Told.{one, here_open, next_open, here_tried, Nothing}
+use Rattle.tree_scan.proofs.TreeAnswers.{one, here_open, next_open, here_tried, Nothing}
 
 abbrev Known : Type 0
 Known = Option (List ℕ)

@@ -5,7 +5,7 @@ use Rattle.path_order.specs.declared.kind.Kind.{Kind}
 use Rattle.path_order.specs.NameList.{Listed}
 use Rattle.path_order.specs.Path.{joined}
 use Rattle.path_order.specs.Stamp.{Moment, later_of, is_recent}
-use Rattle.loc_outside.specs.declared.tree.Times.{Times}
+use Rattle.loc_outside.specs.declared.traits.tree.Times.{Times}
 use Rattle.loc_outside.specs.Trees.{Dir, Dirs}
 use Rattle.mlocate_db.specs.Items.{HeaderItem, HeadItem, EntryItem, EndItem, spell}
 use Rattle.tree_scan.specs.Admitted.{admitted}

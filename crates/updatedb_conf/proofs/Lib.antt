@@ -1,8 +1,8 @@
 pub mod BlockRooms
 pub mod ChangedRooms
 pub mod GivenRooms
-pub mod Parts
-pub mod Pieces
+pub mod TextParts
+pub mod LaidWords
 pub mod Refusals
 pub mod Rooms
 pub mod Scans

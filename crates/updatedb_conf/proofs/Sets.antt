@@ -18,7 +18,7 @@ use Rattle.updatedb_conf.specs.Words.{WordSet, set_of, members, has, marked, joi
 use Rattle.updatedb_conf.specs.declared.word_set.Span.{Span}
 use Rattle.updatedb_conf.specs.Stored.{IsRising, pieces}
 use Rattle.std.proofs.lemmas.List.{map-append}
-use Rattle.updatedb_conf.proofs.Pieces.{texts}
+use Rattle.updatedb_conf.proofs.LaidWords.{texts}
 
 abbrev pub byte_cmp : List ℕ → List ℕ → Ordering
 byte_cmp = slice_cmp nat_cmp

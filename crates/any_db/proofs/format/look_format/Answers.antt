@@ -1,13 +1,13 @@
 use Rattle.std.proofs.Common.{ap, ◌∙◌}
 use Rattle.byte_feed.specs.Feed.{FeedState}
-use Rattle.any_db.proofs.Told.{LooksTen, format_told, rest_told, beginning_told, nothing_given, none_begun}
+use Rattle.any_db.proofs.FormatAhead.{LooksTen, format_told, to_come_told, preamble_told, nothing_given, no_preamble_told}
 use Rattle.any_db.proofs.format.look_format.Goals as goal
 
 pub returns-in_default-clause-none : goal.returns-in_default-clause-none
 returns-in_default-clause-none g c = nothing_given _ c.look.new.self _ _ c.in_default.ensures.took c.in_default.ensures.going.1 c.in_default.ensures.few
 
 pub returns-in_default-clause-unbegun : goal.returns-in_default-clause-unbegun
-returns-in_default-clause-unbegun g c = none_begun _ c.look.new.self _ _ c.in_default.ensures.took c.in_default.ensures.going.1 c.in_default.ensures.few
+returns-in_default-clause-unbegun g c = no_preamble_told _ c.look.new.self _ _ c.in_default.ensures.took c.in_default.ensures.going.1 c.in_default.ensures.few
 
 pub returns-clause-told : goal.returns-clause-told
 returns-clause-told g c =
@@ -31,7 +31,7 @@ returns-clause-rest g c =
       all = e.all;
       bound = e.bound;
     } in
-    rw (c.read_by.ensures, c.ahead.ensures) (rest_told _ _ _ _ _ e.took looks)
+    rw (c.read_by.ensures, c.ahead.ensures) (to_come_told _ _ _ _ _ e.took looks)
 
 pub returns-clause-first : goal.returns-clause-first
 returns-clause-first g c =
@@ -43,4 +43,4 @@ returns-clause-first g c =
       all = e.all;
       bound = e.bound;
     } in
-    rw (c.read_by.ensures, c.ahead.ensures) (beginning_told _ _ _ _ _ e.took looks)
+    rw (c.read_by.ensures, c.ahead.ensures) (preamble_told _ _ _ _ _ e.took looks)

@@ -1,4 +1,4 @@
-use Rattle.bigram_db.proofs.Pieces.{given_is_spelled, spelled_is_given, bases_given}
+use Rattle.bigram_db.proofs.PathPieces.{given_is_spelled, spelled_is_given, bases_given}
 use Rattle.bigram_db.proofs.laws.paths_are_spelled.Goals as goal
 
 pub returns-clause-given : goal.returns-clause-given

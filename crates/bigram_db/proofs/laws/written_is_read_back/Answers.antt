@@ -1,7 +1,7 @@
 use Rattle.std.proofs.Common.{append-nil}
 use Rattle.bigram_db.specs.Chosen.{times, counted, table_for, encode_bigram}
 use Rattle.bigram_db.specs.Spelled.{encode_with}
-use Rattle.bigram_db.proofs.Pieces.{spelled_is_given}
+use Rattle.bigram_db.proofs.PathPieces.{spelled_is_given}
 use Rattle.bigram_db.proofs.TableLaws.{chosen_table}
 use Rattle.bigram_db.proofs.Written.{encoded_can, encoded_spells, encode_with-push, after_all-push}
 use Rattle.bigram_db.proofs.laws.written_is_read_back.Goals as goal

@@ -1,6 +1,6 @@
 use Rattle.std.proofs.Common.{◌≡◌, ◌-◌, cond, length, take, drop, None, rules}
 use Rattle.glob_match.specs.Bracket.{is_complement, parts_first}
-use Rattle.glob_match.proofs.Parts.{bracket-none, bracket-some, rest_is}
+use Rattle.glob_match.proofs.BracketParts.{bracket-none, bracket-some, rest_is}
 use Rattle.glob_match.proofs.bracket.read_bracket.Goals as goal
 
 pub returns-in_default-clause-value : goal.returns-in_default-clause-value

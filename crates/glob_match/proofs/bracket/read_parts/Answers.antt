@@ -1,7 +1,7 @@
 use Rattle.std.proofs.Common.{◌+◌, drop, ap, ◌∙◌, arith, rules}
 use Rattle.std.proofs.Math.ListN.{drop_of_length-le}
 use Rattle.glob_match.specs.Bracket.{part_at, parts, parts_first}
-use Rattle.glob_match.proofs.Parts.{Joins-first, Joins-more, Joins-closed, parts-closed, parts-more, parts-nil, parts_first-more, parts_first-none, rest_is}
+use Rattle.glob_match.proofs.BracketParts.{Joins-first, Joins-more, Joins-closed, parts-closed, parts-more, parts-nil, parts_first-more, parts_first-none, rest_is}
 use Rattle.glob_match.proofs.bracket.read_parts.Goals as goal
 
 pub returns-then-is_empty-clause-none : goal.returns-then-is_empty-clause-none

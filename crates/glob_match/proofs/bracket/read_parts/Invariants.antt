@@ -1,6 +1,6 @@
 use Rattle.std.proofs.Common.{◌-◌, ◌≤◌, length, drop}
 use Rattle.glob_match.specs.Bracket.{parts, parts_first}
-use Rattle.glob_match.proofs.Parts.{Joins}
+use Rattle.glob_match.proofs.BracketParts.{Joins}
 use Rattle.glob_match.proofs.bracket.read_parts.Given as goal
 
 abbrev pub invariant-loop-at : goal.invariant-loop-at

@@ -1,6 +1,6 @@
 use Rattle.std.proofs.Common.{◌≡◌, ◌-◌, get_or, length, take, drop, None, refl, sym, ap, rules}
 use Rattle.glob_match.specs.Bracket.{bracket}
-use Rattle.glob_match.proofs.Parts.{rest_is}
+use Rattle.glob_match.proofs.BracketParts.{rest_is}
 use Rattle.glob_match.proofs.Units.{item_at-star, item_at-any, item_at-quoted_whole, item_at-bracket, item_at-open, item_at-other, bracket_rest}
 use Rattle.glob_match.proofs.reading.push_item.Goals as goal
 

@@ -1,7 +1,7 @@
 use Rattle.std.proofs.Common.{◌++◌, sym, ap, ◌∙◌, arith, append-nil}
 use Rattle.std.proofs.Math.ListN.{drop_of_length-le}
 use Rattle.glob_match.specs.Pattern.{items}
-use Rattle.glob_match.proofs.Parts.{rest_is}
+use Rattle.glob_match.proofs.BracketParts.{rest_is}
 use Rattle.glob_match.proofs.Units.{items-read, items-nil}
 use Rattle.glob_match.proofs.reading.read_items.Goals as goal
 

@@ -1,4 +1,4 @@
-use Rattle.locate02_db.proofs.Pieces.{given_is_spelled, spelled_is_given, bases_given}
+use Rattle.locate02_db.proofs.PathPieces.{given_is_spelled, spelled_is_given, bases_given}
 use Rattle.locate02_db.proofs.laws.paths_are_spelled.Goals as goal
 
 pub returns : goal.returns

@@ -2,7 +2,7 @@ use Rattle.std.proofs.Common.{refl}
 use Rattle.locate02_db.specs.Spelled.{encode02}
 use Rattle.locate02_db.specs.Writer.{nothing_put}
 use Rattle.locate02_db.proofs.Encoded.{encoded_spells, encode02-push, after_all-push}
-use Rattle.locate02_db.proofs.Pieces.{spelled_is_given}
+use Rattle.locate02_db.proofs.PathPieces.{spelled_is_given}
 use Rattle.locate02_db.proofs.laws.written_is_read_back.Goals as goal
 
 pub returns : goal.returns

@@ -1,4 +1,4 @@
-use Rattle.locate02_db.proofs.Parts.{err_after}
+use Rattle.locate02_db.proofs.WrittenParts.{err_after}
 use Rattle.locate02_db.proofs.writer.put_ended.Goals as goal
 
 pub returns-clause-err : goal.returns-clause-err

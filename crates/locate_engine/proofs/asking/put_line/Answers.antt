@@ -1,5 +1,5 @@
 use Rattle.std.proofs.Common.{Result, Ok, Err, OnErr}
-use Rattle.locate_engine.proofs.Parts.{line_short}
+use Rattle.locate_engine.proofs.LineParts.{line_short}
 use Rattle.locate_engine.proofs.asking.put_line.Goals as goal
 
 on_err : {A E : Type 0} (r : Result A E) (P Q : Type 0) → (P → Q) → OnErr r P → OnErr r Q

@@ -1,6 +1,7 @@
 use Rattle.std.proofs.Common.{◌≡◌, ◌*◌, ◌^◌, ◌-◌, ◌≤◌, List, length, sum_by, IsTrue}
 use Rattle.byte_feed.specs.Feed.{Draws}
-use Rattle.byte_feed.specs.Paths.{PathAt, MovedKnown, after_paths}
+use Rattle.byte_feed.specs.Paths.{PathAt, after_paths}
+use Rattle.byte_feed.specs.Calls.{MovedKnown}
 use Rattle.locate_engine.specs.Statistics.{name_len}
 use Rattle.locate_engine.proofs.counting.count_paths.Given as goal
 

@@ -1,7 +1,8 @@
 use Rattle.std.proofs.Common.{◌≡◌, ◌^◌, ◌-◌, ◌+◌, ◌≤◌, ◌<◌, ◌||◌, List, IfSome, IsTrue}
 use Rattle.loc_outside.specs.Gates.{Tests}
 use Rattle.byte_feed.specs.Feed.{Draws}
-use Rattle.byte_feed.specs.Paths.{PathAt, MovedKnown, after_paths}
+use Rattle.byte_feed.specs.Paths.{PathAt, after_paths}
+use Rattle.byte_feed.specs.Calls.{MovedKnown}
 use Rattle.locate_engine.specs.Passing.{rule_of}
 use Rattle.locate_engine.specs.Searched.{OneDirectoryLeft, stand, steps_over}
 use Rattle.locate_engine.specs.Asked.{Tells}

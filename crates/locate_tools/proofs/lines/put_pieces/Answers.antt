@@ -1,4 +1,4 @@
-use Rattle.locate_tools.proofs.Told.{on_err, part_at}
+use Rattle.locate_tools.proofs.MessagesAfter.{on_err, part_at}
 use Rattle.locate_tools.proofs.lines.put_pieces.Goals as goal
 
 pub returns-in_err-put_all-clause-err : goal.returns-in_err-put_all-clause-err

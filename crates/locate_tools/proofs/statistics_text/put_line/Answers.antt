@@ -1,6 +1,6 @@
 use Rattle.std.proofs.Common.{◌∷◌, []}
-use Rattle.loc_outside.proofs.Parts.{part_second}
-use Rattle.locate_tools.proofs.Told.{on_err_by}
+use Rattle.loc_outside.proofs.PartTaken.{part_second}
+use Rattle.locate_tools.proofs.MessagesAfter.{on_err_by}
 use Rattle.locate_tools.proofs.statistics_text.put_line.Goals as goal
 
 pub returns-clause-part : goal.returns-clause-part

@@ -1,8 +1,8 @@
 use Rattle.std.proofs.Common.{◌≡◌, ◌-◌, ◌∙◌, ap, arith, List, ℕ, length}
 use Rattle.path_order.specs.Path.{joined, is_normal}
-use Rattle.tree_scan.proofs.Pieces.{here_by, fits_at}
+use Rattle.tree_scan.proofs.WrittenNames.{here_by, fits_at}
 use Rattle.tree_scan.proofs.Texts.{child_normal}
-use Rattle.tree_scan.proofs.Told.{push_directory, push_file, cut_path}
+use Rattle.tree_scan.proofs.TreeAnswers.{push_directory, push_file, cut_path}
 use Rattle.tree_scan.proofs.children.push_children.Goals as goal
 
 pub loop-at-preserved-in-File : goal.loop-at-preserved-in-File

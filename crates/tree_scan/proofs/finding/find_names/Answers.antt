@@ -1,7 +1,7 @@
 use Rattle.std.proofs.Common.{rules, ◌≡◌, ◌∙◌, true≢false, subst, sym, [], Ok}
 use Rattle.path_order.specs.Stamp.{Moment}
 use Rattle.tree_scan.specs.Records.{Vouches, is_vouched}
-use Rattle.tree_scan.proofs.Told.{when_true}
+use Rattle.tree_scan.proofs.TreeAnswers.{when_true}
 use Rattle.tree_scan.proofs.Asking.{vouches_is}
 use Rattle.tree_scan.proofs.Visits.{raised_none, raised_some, raised_bound}
 use Rattle.tree_scan.proofs.finding.find_names.Goals as goal

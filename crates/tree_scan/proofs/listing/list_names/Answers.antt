@@ -2,7 +2,7 @@ use Rattle.std.proofs.Common.{rules, arith, IsTrue}
 use Rattle.std.specs.FinMap.{entries}
 use Rattle.std.proofs.lemmas.List.Sorted.{length_permutation}
 use Rattle.tree_scan.specs.Admitted.{fits_in}
-use Rattle.tree_scan.proofs.Told.{shown_listing}
+use Rattle.tree_scan.proofs.TreeAnswers.{shown_listing}
 use Rattle.tree_scan.proofs.Sorting.{sorted_admitted, all_sorted}
 use Rattle.tree_scan.proofs.listing.list_names.Goals as goal
 

@@ -1,10 +1,10 @@
 use Rattle.std.proofs.Common.{List, ℕ, subst}
 use Rattle.std.specs.Io.KnownBytes.{Appends}
 use Rattle.std.proofs.KnownBytes.{Appends-trans}
-use Rattle.loc_outside.proofs.Parts.{part_first, part_second, part_all}
+use Rattle.loc_outside.proofs.PartTaken.{part_first, part_second, part_all}
 use Rattle.loc_outside.specs.Outside.{AppendsPart}
 use Rattle.tree_scan.specs.Blocks.{head_text}
-use Rattle.tree_scan.proofs.Pieces.{when_err}
+use Rattle.tree_scan.proofs.WrittenNames.{when_err}
 use Rattle.tree_scan.proofs.Follows.{follows_part, block_in_entries, block_at_end}
 use Rattle.tree_scan.proofs.put.put_block.Goals as goal
 

@@ -2,7 +2,7 @@ use Rattle.std.proofs.Common.{◌∙◌, [], ◌∷◌, List, ℕ, subst, arith,
 use Rattle.std.specs.Io.KnownBytes.{Appends}
 use Rattle.loc_outside.specs.Outside.{AppendsPart}
 use Rattle.tree_scan.specs.Blocks.{entry_text, line}
-use Rattle.tree_scan.proofs.Pieces.{when_err, here_by, pieces_more, pieces_part, lines_more, lines_part}
+use Rattle.tree_scan.proofs.WrittenNames.{when_err, here_by, pieces_more, pieces_part, lines_more, lines_part}
 use Rattle.tree_scan.specs.Walks.{LinesFollow}
 use Rattle.tree_scan.proofs.Follows.{entries_follow, entry_piece}
 use Rattle.tree_scan.proofs.put.put_entries.Goals as goal

@@ -3,7 +3,7 @@ use Rattle.std.specs.Prelude.{OnErr}
 use Rattle.path_order.specs.Path.{joined}
 use Rattle.mlocate_db.proofs.WrittenParts.{err_after}
 use Rattle.loc_outside.specs.Outside.{AppendsPart}
-use Rattle.tree_scan.proofs.Pieces.{when_ok}
+use Rattle.tree_scan.proofs.WrittenNames.{when_ok}
 use Rattle.tree_scan.proofs.Texts.{joined_fits}
 use Rattle.tree_scan.proofs.put.put_line.Goals as goal
 

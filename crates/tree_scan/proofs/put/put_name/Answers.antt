@@ -1,8 +1,8 @@
 use Rattle.std.proofs.Common.{Bool, [], sym, subst, if◌then◌else◌}
 use Rattle.loc_outside.specs.Outside.{AppendsPart}
 use Rattle.tree_scan.specs.Blocks.{line}
-use Rattle.loc_outside.proofs.Parts.{part_all}
-use Rattle.tree_scan.proofs.Pieces.{when_err}
+use Rattle.loc_outside.proofs.PartTaken.{part_all}
+use Rattle.tree_scan.proofs.WrittenNames.{when_err}
 use Rattle.tree_scan.proofs.Follows.{follows_part, follows_line}
 use Rattle.tree_scan.proofs.put.put_name.Goals as goal
 

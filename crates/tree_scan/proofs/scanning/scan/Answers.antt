@@ -10,9 +10,9 @@ use Rattle.tree_scan.specs.Reach.{is_tried}
 use Rattle.tree_scan.specs.Steps.{weight}
 use Rattle.tree_scan.specs.Walks.{AddsChildren, LinesFollow, standing}
 use Rattle.tree_scan.specs.declared.rules.ScanFault.TheVariants.{TreeFault, TooManyNames, TooManyDirectories}
-use Rattle.tree_scan.proofs.Pieces.{when_err}
+use Rattle.tree_scan.proofs.WrittenNames.{when_err}
 use Rattle.tree_scan.proofs.Texts.{normal_fits}
-use Rattle.tree_scan.proofs.Told.{stat_found, when_true, when_false, whole_by, not_none, some_is}
+use Rattle.tree_scan.proofs.TreeAnswers.{stat_found, when_true, when_false, whole_by, not_none, some_is}
 use Rattle.tree_scan.proofs.Visits.{stat_share}
 use Rattle.tree_scan.proofs.Asking.{InOrder, Keeps, Low, order_step, order_begin, low_step, keeps_step, keeps_begin}
 use Rattle.tree_scan.proofs.Past.{Visited, visited_begin, visited_step, visited_full}

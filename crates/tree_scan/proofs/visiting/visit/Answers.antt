@@ -8,8 +8,8 @@ use Rattle.tree_scan.specs.Walks.{Breaks, LinesFollow}
 use Rattle.tree_scan.specs.Blocks.{block_pieces, block_text, lines_of, time_of}
 use Rattle.tree_scan.specs.Plans.{plan_of}
 use Rattle.tree_scan.specs.Records.{Relied}
-use Rattle.tree_scan.proofs.Pieces.{when_err}
-use Rattle.tree_scan.proofs.Told.{seen_true, seen_false, pushed_short}
+use Rattle.tree_scan.proofs.WrittenNames.{when_err}
+use Rattle.tree_scan.proofs.TreeAnswers.{seen_true, seen_false, pushed_short}
 use Rattle.tree_scan.proofs.Visits.{passes_shown, passes_hidden, breaks_shown, breaks_none}
 use Rattle.tree_scan.proofs.visiting.visit.Goals as goal
 

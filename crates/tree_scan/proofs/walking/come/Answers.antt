@@ -6,8 +6,8 @@ use Rattle.tree_scan.specs.Blocks.{time_of}
 use Rattle.tree_scan.specs.Plans.{plan_of}
 use Rattle.tree_scan.specs.Records.{Relied}
 use Rattle.tree_scan.specs.Walks.{Breaks}
-use Rattle.tree_scan.proofs.Pieces.{when_err}
-use Rattle.tree_scan.proofs.Told.{nothing_pruned}
+use Rattle.tree_scan.proofs.WrittenNames.{when_err}
+use Rattle.tree_scan.proofs.TreeAnswers.{nothing_pruned}
 use Rattle.tree_scan.proofs.Visits.{passes_nothing, no_children, leaves_same, raised_nothing, here_once, opens_one, opens_none}
 use Rattle.tree_scan.proofs.walking.come.Goals as goal
 

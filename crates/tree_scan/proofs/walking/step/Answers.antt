@@ -6,8 +6,8 @@ use Rattle.tree_scan.specs.Blocks.{time_of}
 use Rattle.tree_scan.specs.Plans.{plan_of}
 use Rattle.tree_scan.specs.Records.{Relied}
 use Rattle.tree_scan.specs.Walks.{Breaks}
-use Rattle.tree_scan.proofs.Pieces.{when_err}
-use Rattle.tree_scan.proofs.Told.{stat_found, nothing_pruned}
+use Rattle.tree_scan.proofs.WrittenNames.{when_err}
+use Rattle.tree_scan.proofs.TreeAnswers.{stat_found, nothing_pruned}
 use Rattle.tree_scan.proofs.Visits.{passes_nothing, breaks_none, no_children, leaves_same, raised_nothing, here_once, opens_one, opens_none, stat_weight}
 use Rattle.tree_scan.proofs.walking.step.Goals as goal
 

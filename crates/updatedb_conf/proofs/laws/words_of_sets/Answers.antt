@@ -2,7 +2,7 @@ use Rattle.std.proofs.Common.{◌≡◌, ◌||◌, ap, ◌∙◌}
 use Rattle.std.specs.List.{list_any}
 use Rattle.std.specs.Str.{bytes_eq}
 use Rattle.updatedb_conf.specs.Words.{set_of}
-use Rattle.updatedb_conf.proofs.Pieces.{texts}
+use Rattle.updatedb_conf.proofs.LaidWords.{texts}
 use Rattle.updatedb_conf.proofs.Sets.{has-set_of-bytes, has-joined}
 use Rattle.updatedb_conf.proofs.laws.words_of_sets.Goals as goal
 

@@ -1,7 +1,7 @@
 use Rattle.std.proofs.Common.{◌≡◌, length, sym, subst, ap, arith}
 use Rattle.updatedb_conf.specs.Stored.{IsRising}
 use Rattle.updatedb_conf.specs.Words.{set_of}
-use Rattle.updatedb_conf.proofs.Pieces.{laid_next, laid_all}
+use Rattle.updatedb_conf.proofs.LaidWords.{laid_next, laid_all}
 use Rattle.updatedb_conf.proofs.word_set.set_of_rising.Goals as goal
 
 pub loop-word-preserved : goal.loop-word-preserved

@@ -1,6 +1,6 @@
 use Rattle.std.proofs.Common.{◌≡◌, map, take, length}
 use Rattle.updatedb_conf.specs.Stored.{pieces}
-use Rattle.updatedb_conf.proofs.Pieces.{Within}
+use Rattle.updatedb_conf.proofs.LaidWords.{Within}
 use Rattle.updatedb_conf.proofs.word_set.set_of_rising.Given as goal
 
 abbrev pub invariant-loop-word : goal.invariant-loop-word

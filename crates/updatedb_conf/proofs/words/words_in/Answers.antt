@@ -4,7 +4,7 @@ use Rattle.std.proofs.Math.Seq.{take-length}
 use Rattle.std.proofs.lemmas.Iterator.Consumers.{YieldsList-turn, YieldsList-end}
 use Rattle.std.proofs.lemmas.Iterator.Splits.{YieldsList-from_slice_split}
 use Rattle.updatedb_conf.specs.Words.{words, is_space, is_nonempty}
-use Rattle.updatedb_conf.proofs.Parts.{filter_next}
+use Rattle.updatedb_conf.proofs.TextParts.{filter_next}
 use Rattle.updatedb_conf.proofs.words.words_in.Goals as goal
 use borrow.Author.Tests.{tests}
 

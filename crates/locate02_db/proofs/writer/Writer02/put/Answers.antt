@@ -2,7 +2,7 @@ use Rattle.std.proofs.Common.{◌≡◌, ℕ, List, subst}
 use Rattle.loc_outside.specs.Outside.{AppendsShort}
 use Rattle.byte_feed.specs.Prefix.{common_prefix}
 use Rattle.locate02_db.specs.Writer.{WriterState}
-use Rattle.locate02_db.proofs.Parts.{part_after, err_from}
+use Rattle.locate02_db.proofs.WrittenParts.{part_after, err_from}
 use Rattle.locate02_db.proofs.Puts.{piece_is, after_is}
 use Rattle.locate02_db.proofs.writer.Writer02.put.Goals as goal
 

@@ -1,6 +1,6 @@
 use Rattle.std.proofs.Common.{◌≡◌, ◌^◌, ◌-◌, ◌≤◌, IsTrue}
 use Rattle.byte_feed.specs.Feed.{Draws}
-use Rattle.byte_feed.specs.Paths.{MovedKnown}
+use Rattle.byte_feed.specs.Calls.{MovedKnown}
 use Rattle.mlocate_db.specs.Reader.{is_live, paths_left}
 use Rattle.mlocate_db.proofs.db_reader.DbReaderPathStream.next_path.Given as goal
 

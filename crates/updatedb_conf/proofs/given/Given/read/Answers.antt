@@ -6,7 +6,7 @@ use Rattle.updatedb_conf.specs.Settings.{lines, given_by, given_in, at_line}
 use Rattle.updatedb_conf.specs.Line.{◌>>=◌}
 use Rattle.updatedb_conf.specs.Words.{is_newline}
 use Rattle.updatedb_conf.proofs.Refusals.{refused_for_a_line}
-use Rattle.updatedb_conf.proofs.Parts.{given_by_next, given_by_end}
+use Rattle.updatedb_conf.proofs.TextParts.{given_by_next, given_by_end}
 use Rattle.updatedb_conf.proofs.given.Given.read.Goals as goal
 use borrow.Author.Tests.{tests}
 

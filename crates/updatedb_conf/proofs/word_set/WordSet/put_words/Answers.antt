@@ -2,7 +2,7 @@ use Rattle.std.proofs.Common.{◌≡◌, ◌++◌, ap, ◌∙◌}
 use Rattle.std.specs.List.{flat_map}
 use Rattle.updatedb_conf.specs.declared.word_set.Span.{Span}
 use Rattle.updatedb_conf.specs.Block.{zero_ended}
-use Rattle.updatedb_conf.proofs.Pieces.{put_next, put_all}
+use Rattle.updatedb_conf.proofs.LaidWords.{put_next, put_all}
 use Rattle.updatedb_conf.proofs.Sets.{stored_members}
 use Rattle.updatedb_conf.specs.Stored.{pieces}
 use Rattle.updatedb_conf.proofs.word_set.WordSet.put_words.Goals as goal
