@@ -50,7 +50,6 @@ pub trait PathStream {
         ensures refused { IfErr result (λ e. NoPreambleKnown (preamble self.old) (feed self.old) (S.left src.old) (S.left src.new) e) }
         ensures err { IfErr result (λ e. EndsKnown (to_come self.old) (no_paths 0 0) (feed self.old) (S.left src.old) (S.left src.new) (Err e)) }
         ensures stops { IfErr result (λ e. StopsAt (feed self.new) 0 (Err e)) }
-        ensures grows { OnOk result (0 < stored self.new) }
         ensures stays { OnErr result (stored self.new ≡ 0) }
         ensures bound { stored self.new ≤ 2 ^ 40 }
         ensures heads { heads_read self.new ≡ 0 }

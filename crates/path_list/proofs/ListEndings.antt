@@ -15,7 +15,8 @@ use Rattle.byte_feed.specs.declared.damage.Stop.{Stop}
 use Rattle.byte_feed.specs.declared.damage.Stop.TheVariants.{NotADatabase, Broken}
 use Rattle.byte_feed.specs.Field.{◌>>=◌, demand, max_path}
 use Rattle.byte_feed.specs.Front.{front, readable, spelling}
-use Rattle.byte_feed.specs.Paths.{Ending, contents, rest_of, end_by}
+use Rattle.byte_feed.specs.Endings.{Ending, end_by}
+use Rattle.byte_feed.specs.Paths.{contents, rest_of}
 use Rattle.path_list.specs.Items.{Item, Marked, Unmarked, path_test, marked_at, unmarked_at, item_at, list_by}
 use Rattle.path_list.specs.Spelled.{EndsList}
 use Rattle.path_list.proofs.ItemLaws.{Bare, Split, at_mark, no_mark, split_bytes, item_marked, item_open}
@@ -89,7 +90,7 @@ test_failed : (r : Result (Unit {0}) Stop) (cause : DamageCause) → (cause ≡ 
 test_failed (Ok u) cause other e = absurd (other (sym (ap cause_or e)))
 test_failed (Err s) cause other e = ap failed_test (ap stop_or e)
 
-stays_open : (mark : ℕ) (last : Bool) (bytes more : List ℕ) (s : Stop) → Bare mark bytes → path_test bytes ≡ failed_test s → Split mark more → item_at mark last (bytes ++ more) ≡ failed s
+pub stays_open : (mark : ℕ) (last : Bool) (bytes more : List ℕ) (s : Stop) → Bare mark bytes → path_test bytes ≡ failed_test s → Split mark more → item_at mark last (bytes ++ more) ≡ failed s
 stays_open mark last bytes more s bare e (at_mark path rest whole bare') =
     ap (λ (m : List ℕ). item_at mark last (bytes ++ m)) whole ∙ ap (item_at mark last) (sym (append_assoc bytes path (mark ∷ rest)))
     ∙ item_marked mark last (bytes ++ path) rest (All-append (λ b. b ≢ mark) bytes path bare bare')
