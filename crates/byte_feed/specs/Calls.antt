@@ -1,5 +1,5 @@
 -- What a call does to the rest of a file, to its source and to a reader's place.
-use Rattle.std.specs.Prelude.{◌≡◌, ℕ, ◌+◌, ◌≤◌, ◌<◌, ◌^◌, Bool, false, List, length, Option, Some, None, Result, Ok, Err, OnOk, OnErr, if◌then◌else◌, ⊤, MatchBool}
+use Rattle.std.specs.Prelude.{◌≡◌, ℕ, ◌+◌, ◌≤◌, ◌^◌, Bool, false, List, length, Option, Some, None, Result, Ok, Err, OnErr, if◌then◌else◌, ⊤, MatchBool}
 use Rattle.byte_feed.specs.declared.damage.DbFault.{DbFault}
 use Rattle.byte_feed.specs.Front.{Window}
 use Rattle.byte_feed.specs.Feed.{FeedState, window, so_far, reach, Draws}
@@ -63,7 +63,6 @@ pub record ReadsAhead (f f' : FeedState) (given given' : ℕ) (left left' : Opti
 
 -- The place is behind the preamble where that was whole, and else where the file begins. No head was read.
 pub record PlaceBehind {A E : Type 0} (result : Result A E) (place' heads' : ℕ) : Type 0 where
-  pub grows : OnOk result (0 < place')
   pub stays : OnErr result (place' ≡ 0)
   pub bound : place' ≤ 2 ^ 40
   pub heads : heads' ≡ 0

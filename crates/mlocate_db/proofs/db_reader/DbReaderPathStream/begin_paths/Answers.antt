@@ -18,7 +18,6 @@ pub returns-clause-place : goal.returns-clause-place
 returns-clause-place g c =
     let s = c.start.ensures.started in
     record {
-      grows = rw s.place_before at s.grows;
       stays = stays_by c.args.self.now c.start.new.self c.start.result s.place_before s.stays;
       bound = s.bound;
       heads = s.heads ∙ s.heads_before;
