@@ -23,7 +23,7 @@ impl Model for StateSet {
     ghost invariant = { λ s. AreMarked s.order.items s.count s.marks.items };
 }
 
-/// Takes the marks of the listed states away, which are all that there are.
+/// Clears the marks of the listed states, the only ones marked.
 fn unmark(marks: &mut Vec<bool>, listed: &[usize])
     requires below { (s : ℕ) → Contains listed.now s → s < length marks.old.items }
     requires all { (s : ℕ) → s < length marks.old.items → slice_index_or marks.old.items s false ≡ true → Contains listed.now s }
@@ -49,7 +49,7 @@ impl StateSet {
         })
     }
 
-    /// How many states the set has.
+    /// How many states are in the set.
     #[inline(always)]
     pub(crate) fn len(&self) -> usize
         ensures value { result ≡ length self.now.order }
@@ -58,7 +58,7 @@ impl StateSet {
         self.count
     }
 
-    /// The state that came at a place.
+    /// The state at a place of that order.
     #[inline(always)]
     pub(crate) fn at(&self, place: usize) -> usize
         requires { place < length self.now.order }
@@ -68,7 +68,7 @@ impl StateSet {
         self.order[place]
     }
 
-    /// Empties the set, in time that its members bound.
+    /// Empties the set, in as many steps as it has members.
     pub(crate) fn clear(&mut self)
         ensures width { self.new.width ≡ self.old.width }
         ensures empty { self.new.order ≡ [] }
