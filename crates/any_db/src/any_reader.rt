@@ -1,10 +1,9 @@
 //! A database of any format, read path by path.
-ghost use Rattle.std.specs.Prelude.{◌≡◌, ◌+◌, ◌≤◌, ◌<◌, ◌^◌, ◌∷◌, [], length, true, false, Some, Ok, Err, OnOk, OnErr, IfSome, IsSome, IfErr, IsTrue, IsErrOf, is_ok};
+ghost use Rattle.std.specs.Prelude.{◌≡◌, ◌≤◌, ◌<◌, ◌∷◌, [], true, false, Some, Ok, Err, OnOk, IfSome, IsSome, IfErr, IsTrue, IsErrOf, is_ok};
 ghost use Rattle.loc_outside.specs.Causes.{Rose};
-ghost use Rattle.byte_feed.specs.Feed.{Draws, reach};
 ghost use Rattle.byte_feed.specs.Endings.{StopsAt};
-ghost use Rattle.byte_feed.specs.Paths.{IsPath, after_paths, no_paths};
-ghost use Rattle.byte_feed.specs.Calls.{PreambleKnown, MovedKnown, EndsKnown, NoPreambleKnown, is_found};
+ghost use Rattle.byte_feed.specs.Paths.{after_paths, no_paths};
+ghost use Rattle.byte_feed.specs.Calls.{PreambleKnown, MovedKnown, EndsKnown, NoPreambleKnown, ReadsAhead, PlaceBehind, PlaceMoves, IsFound, is_found};
 ghost use Rattle.any_db.specs.Formats.{preamble_in, preamble_by, to_come_by};
 ghost use Rattle.any_db.specs.Reader.{FormatKnown, known_after, fresh, is_fresh, format_known, feed_of, paths_left, is_live, is_gated, path_found, stored_in, heads_in};
 
@@ -70,20 +69,15 @@ impl AnyReader {
     ) -> Result<(), DbFault>
         requires { feed.offset ≡ 0 }
         ensures told { format_known self.new.stage ≡ known_after (is_ok result) format }
-        ensures begun { OnOk result (PreambleKnown (preamble_by format) feed (S.left src.old) (stored_in self.new.stage) (is_gated self.new.stage)) }
+        ensures preamble { OnOk result (PreambleKnown (preamble_by format) feed (S.left src.old) (stored_in self.new.stage) (is_gated self.new.stage)) }
         ensures ok { OnOk result (MovedKnown (to_come_by format) (paths_left self.new.stage) (λ t. t) feed (S.left src.old) (feed_of self.new.stage) (S.left src.new)) }
         ensures refused { IfErr result (λ e. NoPreambleKnown (preamble_by format) feed (S.left src.old) (S.left src.new) e) }
         ensures err { IfErr result (λ e. EndsKnown (to_come_by format) (no_paths 0 0) feed (S.left src.old) (S.left src.new) (Err e)) }
         ensures stops { IfErr result (λ e. StopsAt (feed_of self.new.stage) 0 (Err e)) }
-        ensures grows { OnOk result (0 < stored_in self.new.stage) }
-        ensures stays { OnErr result (stored_in self.new.stage ≡ 0) }
-        ensures bound { stored_in self.new.stage ≤ 2 ^ 40 }
-        ensures heads { heads_in self.new.stage ≡ 0 }
+        ensures place { PlaceBehind result (stored_in self.new.stage) (heads_in self.new.stage) }
         ensures live { is_live self.new.stage ≡ is_ok result }
         ensures spent { is_fresh self.new.stage ≡ false }
-        ensures drawn { Draws feed (feed_of self.new.stage) (S.given src.old) (S.given src.new) (S.left src.old) (S.left src.new) }
-        ensures held { length (feed_of self.new.stage).held ≤ 4096 }
-        ensures reach { reach (feed_of self.new.stage) ≤ 2 ^ 40 }
+        ensures ahead { ReadsAhead feed (feed_of self.new.stage) (S.given src.old) (S.given src.new) (S.left src.old) (S.left src.new) }
         ensures fault { IsErrOf result DbFault.ReadFault → Rose (S.faults src.old) (S.faults src.new) }
         ensures later { S.faults src.old ≤ S.faults src.new }
         ensures kept { S.kept src.old src.new }
@@ -144,20 +138,15 @@ impl PathStream for AnyReader {
         ensures told { (IsErrOf result DbFault.ReadFault → ⊥) → FormatKnown (feed_of self.old.stage) (S.left src.old) (format_known self.new.stage) }
         ensures right { IfSome (format_known self.new.stage) (λ d. FormatKnown (feed_of self.old.stage) (S.left src.old) (Some d)) }
         ensures known { OnOk result (IsSome (format_known self.new.stage)) }
-        ensures begun { OnOk result (PreambleKnown preamble_in (feed_of self.old.stage) (S.left src.old) (stored_in self.new.stage) (is_gated self.new.stage)) }
+        ensures preamble { OnOk result (PreambleKnown preamble_in (feed_of self.old.stage) (S.left src.old) (stored_in self.new.stage) (is_gated self.new.stage)) }
         ensures ok { OnOk result (MovedKnown (paths_left self.old.stage) (paths_left self.new.stage) (λ t. t) (feed_of self.old.stage) (S.left src.old) (feed_of self.new.stage) (S.left src.new)) }
         ensures refused { IfErr result (λ e. NoPreambleKnown preamble_in (feed_of self.old.stage) (S.left src.old) (S.left src.new) e) }
         ensures err { IfErr result (λ e. EndsKnown (paths_left self.old.stage) (no_paths 0 0) (feed_of self.old.stage) (S.left src.old) (S.left src.new) (Err e)) }
         ensures stops { IfErr result (λ e. StopsAt (feed_of self.new.stage) 0 (Err e)) }
-        ensures grows { OnOk result (0 < stored_in self.new.stage) }
-        ensures stays { OnErr result (stored_in self.new.stage ≡ 0) }
-        ensures bound { stored_in self.new.stage ≤ 2 ^ 40 }
-        ensures heads { heads_in self.new.stage ≡ 0 }
+        ensures place { PlaceBehind result (stored_in self.new.stage) (heads_in self.new.stage) }
         ensures live { is_live self.new.stage ≡ is_ok result }
         ensures spent { is_fresh self.new.stage ≡ false }
-        ensures drawn { Draws (feed_of self.old.stage) (feed_of self.new.stage) (S.given src.old) (S.given src.new) (S.left src.old) (S.left src.new) }
-        ensures held { length (feed_of self.new.stage).held ≤ 4096 }
-        ensures reach { reach (feed_of self.new.stage) ≤ 2 ^ 40 }
+        ensures ahead { ReadsAhead (feed_of self.old.stage) (feed_of self.new.stage) (S.given src.old) (S.given src.new) (S.left src.old) (S.left src.new) }
         ensures fault { IsErrOf result DbFault.ReadFault → Rose (S.faults src.old) (S.faults src.new) }
         ensures later { S.faults src.old ≤ S.faults src.new }
         ensures kept { S.kept src.old src.new }
@@ -180,19 +169,12 @@ impl PathStream for AnyReader {
         ensures err { IfErr result (λ e. EndsKnown (paths_left self.old.stage) (no_paths (stored_in self.new.stage) (heads_in self.new.stage)) (feed_of self.old.stage) (S.left src.old) (S.left src.new) (Err e)) }
         ensures whole { result ≡ Ok false → StopsAt (feed_of self.new.stage) (stored_in self.new.stage) (Ok tt) }
         ensures stops { IfErr result (λ e. StopsAt (feed_of self.new.stage) (stored_in self.new.stage) (Err e)) }
-        ensures near { (feed_of self.new.stage).offset ≤ stored_in self.new.stage + 2 ^ 14 }
-        ensures text { IsTrue (is_found result) → IsPath (path_found self.new.stage).text }
-        ensures dir { IsTrue (is_found result) → (path_found self.new.stage).dir_len ≤ length (path_found self.new.stage).text }
-        ensures at { IsTrue (is_found result) → ((path_found self.new.stage).place ≡ stored_in self.new.stage) × ((path_found self.new.stage).heads ≡ heads_in self.new.stage) }
+        ensures found { IsTrue (is_found result) → IsFound (path_found self.new.stage) (stored_in self.new.stage) (heads_in self.new.stage) }
         ensures grows { IsTrue (is_found result) → stored_in self.old.stage < stored_in self.new.stage }
-        ensures forth { stored_in self.old.stage ≤ stored_in self.new.stage }
-        ensures bound { stored_in self.new.stage ≤ 2 ^ 40 }
-        ensures heads { heads_in self.new.stage ≤ stored_in self.new.stage }
+        ensures place { PlaceMoves (feed_of self.new.stage) (stored_in self.old.stage) (stored_in self.new.stage) (heads_in self.new.stage) }
         ensures gate { is_gated self.new.stage ≡ is_gated self.old.stage }
         ensures live { is_live self.new.stage ≡ is_found result }
-        ensures drawn { Draws (feed_of self.old.stage) (feed_of self.new.stage) (S.given src.old) (S.given src.new) (S.left src.old) (S.left src.new) }
-        ensures held { length (feed_of self.new.stage).held ≤ 4096 }
-        ensures reach { reach (feed_of self.new.stage) ≤ 2 ^ 40 }
+        ensures ahead { ReadsAhead (feed_of self.old.stage) (feed_of self.new.stage) (S.given src.old) (S.given src.new) (S.left src.old) (S.left src.new) }
         ensures fault { IsErrOf result DbFault.ReadFault → Rose (S.faults src.old) (S.faults src.new) }
         ensures later { S.faults src.old ≤ S.faults src.new }
         ensures kept { S.kept src.old src.new }

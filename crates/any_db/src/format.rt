@@ -44,7 +44,7 @@ pub(crate) fn look_format<S: Source>(feed: &mut Feed, src: &mut S) -> Result<Dat
     ensures rest { IfOk result (λ d. MovedKnown to_come_in (to_come_by d) (λ t. t) feed.old (S.left src.old) feed.new (S.left src.new)) }
     ensures first { IfOk result (λ d. MovedKnown preamble_in (preamble_by d) (λ b. b) feed.old (S.left src.old) feed.new (S.left src.new)) }
     ensures none { OnErr result (EndsKnown to_come_in (no_paths 0 0) feed.old (S.left src.old) (S.left src.new) (Err ReadFault)) }
-    ensures unbegun { OnErr result (NoPreambleKnown preamble_in feed.old (S.left src.old) (S.left src.new) ReadFault) }
+    ensures refused { OnErr result (NoPreambleKnown preamble_in feed.old (S.left src.old) (S.left src.new) ReadFault) }
     ensures offset { feed.new.offset ≡ 0 }
     ensures drawn { Draws feed.old feed.new (S.given src.old) (S.given src.new) (S.left src.old) (S.left src.new) }
     ensures held { length feed.new.held ≤ 4096 }

@@ -1,11 +1,8 @@
 //! Small databases of each format, what tells them apart, and reads that fail.
-ghost use Rattle.std.specs.Prelude.{None, ⊤, min};
-ghost use Rattle.loc_outside.specs.Causes.{last_count, stays_below};
-ghost use Rattle.loc_outside.specs.Memory.{fault_count};
 
 use crate::{AnyReader, DatabaseFormat};
 use byte_feed::{Damage, DamageCause, DbFault, PathStream};
-use loc_outside::{Failed, MemFiles, Reader, SliceSource, Source};
+use loc_outside::{ByteByByte, MemFiles, Reader, SliceSource, Source};
 use std::alloc::{AllocError, Global};
 
 /// A database of mlocate whose paths are shown to those alone who may list `/usr`, with `/usr/bin`.
@@ -261,34 +258,6 @@ fn the_first_bytes_go_before_a_table(rt: HostRuntime) -> Result<(), AllocError> 
         (Some(DatabaseFormat::Bigram), 0, Ok(()))
     );
     Ok(())
-}
-
-/// A file that is read one byte at a time.
-#[derive(Drop)]
-struct ByteByByte {
-    files: MemFiles,
-}
-
-impl Source for ByteByByte {
-    ghost left = { λ s. None };
-
-    ghost given = { λ s. min s.files.given last_count };
-
-    ghost faults = { λ s. fault_count s.files.failures };
-
-    ghost kept = { λ s t. ⊤ };
-
-    ghost keeps_itself = { λ s. tt };
-
-    ghost keeps_on = { λ s t u first then. tt };
-
-    ghost given_below = { λ s. stays_below s.files.given };
-
-    ghost faults_below = { λ s. stays_below s.files.failures.faults };
-
-    fn read(&mut self, into: &mut [u8]) -> Result<usize, Failed> {
-        self.files.read(&mut into[..1])
-    }
 }
 
 /// A file that is read one byte at a time, where the read behind so many fails.

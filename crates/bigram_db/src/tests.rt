@@ -1,11 +1,9 @@
 //! Small databases, written and read, and what damage to them is told.
-ghost use Rattle.std.specs.Prelude.{◌<◌, None, ⊤, min};
-ghost use Rattle.loc_outside.specs.Causes.{last_count, stays_below};
-ghost use Rattle.loc_outside.specs.Memory.{fault_count};
+ghost use Rattle.std.specs.Prelude.{◌<◌};
 
 use crate::{PairCounts, PairTable, ReaderBigram, WriterBigram};
 use byte_feed::{Damage, DamageCause, DbFault, Feed, PathStream};
-use loc_outside::{Failed, MemFiles, MemSink, Reader, SliceSource, Source};
+use loc_outside::{ByteByByte, MemFiles, MemSink, Reader, SliceSource, Source};
 use path_order::PathBuf;
 use std::alloc::{AllocError, Global};
 use std::marker::Model;
@@ -341,34 +339,6 @@ fn reads_the_longest_paths(rt: HostRuntime) -> Result<(), AllocError> {
         assert_eq!(rt; end, Some(ending));
     }
     Ok(())
-}
-
-/// A file that is read one byte at a time.
-#[derive(Drop)]
-struct ByteByByte {
-    files: MemFiles,
-}
-
-impl Source for ByteByByte {
-    ghost left = { λ s. None };
-
-    ghost given = { λ s. min s.files.given last_count };
-
-    ghost faults = { λ s. fault_count s.files.failures };
-
-    ghost kept = { λ s t. ⊤ };
-
-    ghost keeps_itself = { λ s. tt };
-
-    ghost keeps_on = { λ s t u first then. tt };
-
-    ghost given_below = { λ s. stays_below s.files.given };
-
-    ghost faults_below = { λ s. stays_below s.files.failures.faults };
-
-    fn read(&mut self, into: &mut [u8]) -> Result<usize, Failed> {
-        self.files.read(&mut into[..1])
-    }
 }
 
 /// Three paths, read one byte at a time, where the `n`-th read fails.

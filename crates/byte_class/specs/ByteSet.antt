@@ -1,5 +1,5 @@
 -- What a set of bytes has, and the set of a test.
-use Rattle.std.specs.Prelude.{ℕ, ◌/◌, ◌%◌, ◌==◌, ◌||◌, not, Bool, List, filter, slice_index, if◌then◌else◌}
+use Rattle.std.specs.Prelude.{◌≡◌, ℕ, ◌<◌, ◌/◌, ◌%◌, ◌==◌, ◌||◌, not, Bool, List, filter, slice_index, if◌then◌else◌}
 use Rattle.std.specs.List.{range_with_len}
 use Rattle.std.specs.Char.{to_ascii_lowercase, to_ascii_uppercase}
 use Rattle.std.specs.Int.{bit_at}
@@ -21,3 +21,7 @@ folded fold test byte =
 -- the set of a test, closed under case and then, where it is asked, complemented
 unfoldable pub in_set : Bool → Bool → (ℕ → Bool) → ℕ → Bool
 in_set fold complement test byte = if complement then not (folded fold test byte) else folded fold test byte
+
+-- a test holds of this byte and of no other
+abbrev pub IsAlone : (ℕ → Bool) → ℕ → Type 0
+IsAlone test byte = (byte < 256) × ((other : ℕ) → other < 256 → test other ≡ (other == byte))

@@ -1,7 +1,7 @@
 //! Sets of bytes.
-ghost use Rattle.std.specs.Prelude.{◌≡◌, ℕ, ◌<◌, ◌==◌, ◌||◌, true, false};
+ghost use Rattle.std.specs.Prelude.{◌≡◌, ◌↔◌, ℕ, ◌<◌, ◌==◌, ◌||◌, true, false, IsTrue, MatchOption};
 ghost use Rattle.std.specs.Int.{is_in_range};
-ghost use Rattle.byte_class.specs.ByteSet.{has, folded, in_set};
+ghost use Rattle.byte_class.specs.ByteSet.{has, folded, in_set, IsAlone};
 ghost use Rattle.byte_class.specs.Class.{class_has};
 
 use crate::class::Class;
@@ -35,6 +35,35 @@ impl ByteSet {
         ensures { result ≡ has self.now byte }
     {
         (self.words[byte as usize / 64] >> (byte % 64)) & 1 == 1
+    }
+
+    /// Whether the set has this byte and no other.
+    fn has_only(&self, byte: u8) -> bool
+        ensures { IsTrue result ↔ IsAlone (has self.now) byte }
+    {
+        for n in 0..256usize {
+            if self.contains(n as u8) != (n as u8 == byte) {
+                return false;
+            }
+        }
+        true
+    }
+
+    /// The byte of a set that has exactly one.
+    pub fn single(&self) -> Option<u8>
+        ensures { MatchOption result ((byte : ℕ) → IsAlone (has self.now) byte → ⊥) (λ byte. IsAlone (has self.now) byte) }
+    {
+        for n in 0..256usize {
+            let byte = n as u8;
+            if self.contains(byte) {
+                return if self.has_only(byte) {
+                    Some(byte)
+                } else {
+                    None
+                };
+            }
+        }
+        None
     }
 
     /// Inserts the byte.

@@ -16,4 +16,5 @@ pub mod Compared
 pub mod Rests
 pub mod Steps
 pub mod Preambles
+pub mod AheadReads
 pub mod CommonPrefix

@@ -1,9 +1,10 @@
--- What a call does to the rest of a file.
-use Rattle.std.specs.Prelude.{◌≡◌, ℕ, ◌≤◌, Bool, false, List, length, Option, Some, None, Result, Ok, Err, if◌then◌else◌, ⊤, MatchBool}
+-- What a call does to the rest of a file, to its source and to a reader's place.
+use Rattle.std.specs.Prelude.{◌≡◌, ℕ, ◌+◌, ◌≤◌, ◌^◌, Bool, false, List, length, Option, Some, None, Result, Ok, Err, OnErr, if◌then◌else◌, ⊤, MatchBool}
 use Rattle.byte_feed.specs.declared.damage.DbFault.{DbFault}
 use Rattle.byte_feed.specs.Front.{Window}
-use Rattle.byte_feed.specs.Feed.{FeedState, window, so_far}
+use Rattle.byte_feed.specs.Feed.{FeedState, window, so_far, reach, Draws}
 use Rattle.byte_feed.specs.Endings.{Ending, is_read_fault}
+use Rattle.byte_feed.specs.Paths.{PathAt, IsPath}
 
 -- Some was given off the front of the rest of the file, and of the rest of each first part of it that had come.
 pub record Moved {T : Type 0} (before after : Window → T) (given : T → T) (f : FeedState) (left : List ℕ) (f' : FeedState) (left' : List ℕ) : Type 0 where
@@ -51,3 +52,30 @@ NoPreambleKnown preamble f (Some l) (Some l') fault = NoPreamble preamble f l (l
 abbrev pub is_found : {E : Type 0} → Result Bool E → Bool
 is_found (Ok b) = b
 is_found (Err e) = false
+
+-- ---- whatever the source tells
+
+-- Just the bytes that the feed came to hold were drawn from the source. At most 4,096 lie ahead, and none past 2^40.
+pub record ReadsAhead (f f' : FeedState) (given given' : ℕ) (left left' : Option (List ℕ)) : Type 0 where
+  pub drawn : Draws f f' given given' left left'
+  pub held : length f'.held ≤ 4096
+  pub bound : reach f' ≤ 2 ^ 40
+
+-- The place is behind the preamble where that was whole, and else where the file begins. No head was read.
+pub record PlaceBehind {A E : Type 0} (result : Result A E) (place' heads' : ℕ) : Type 0 where
+  pub stays : OnErr result (place' ≡ 0)
+  pub bound : place' ≤ 2 ^ 40
+  pub heads : heads' ≡ 0
+
+-- The place does not go back. The feed is no more than one item past it, and no more heads than bytes were read.
+pub record PlaceMoves (f' : FeedState) (place place' heads' : ℕ) : Type 0 where
+  pub forth : place ≤ place'
+  pub bound : place' ≤ 2 ^ 40
+  pub near : f'.offset ≤ place' + 2 ^ 14
+  pub heads : heads' ≤ place'
+
+-- The path has 1 to 4,096 bytes without byte 0, its directory's length is none above its own, and its item was read last.
+pub record IsFound (p : PathAt) (place' heads' : ℕ) : Type 0 where
+  pub text : IsPath p.text
+  pub dir : p.dir_len ≤ length p.text
+  pub at : (p.place ≡ place') × (p.heads ≡ heads')

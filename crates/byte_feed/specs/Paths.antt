@@ -67,7 +67,7 @@ as_paths f s place heads r = record { paths = paths_of f s place heads r.items; 
 abbrev pub to_come : (f : Format) → f.State → ℕ → ℕ → Window → ToCome
 to_come f s place heads w = as_paths f s place heads (rest_of f s place w)
 
--- the length of the first item of a file and whether it asks for visible paths alone, where that item is whole
+-- a file's preamble, which is its first item: its length and whether it asks for visible paths alone, where it is whole
 abbrev pub preamble_of : (f : Format) → Window → Option (ℕ × Bool)
 preamble_of f w = on_ok None (λ x. Some (length (f.spell x.0), f.gate_of x.0)) (f.item_at (not w.more) f.begin w.bytes)
 

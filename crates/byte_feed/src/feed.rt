@@ -312,7 +312,7 @@ impl Feed {
     /// The bytes that are held.
     #[inline(always)]
     #[tactic(auto, using(crate::proofs::HeldBytes::held_len))]
-    pub(crate) fn held(&self) -> &[u8]
+    pub fn held(&self) -> &[u8]
         ensures value { result.now ≡ self.now.held }
         ensures bound { self.now.offset + length self.now.held ≤ 2 ^ 40 }
         ensures most { length self.now.held ≤ 4096 }

@@ -1,11 +1,11 @@
 //! Streams of paths.
-ghost use Rattle.std.specs.Prelude.{◌≡◌, ◌+◌, ◌<◌, ◌≤◌, ◌^◌, ◌∷◌, [], List, ℕ, Bool, Option, true, false, length, Result, Ok, Err, IfOk, IfErr, OnOk, OnErr, IsTrue, IsErrOf, is_ok};
+ghost use Rattle.std.specs.Prelude.{◌≡◌, ◌<◌, ◌≤◌, ◌^◌, ◌∷◌, [], ℕ, Bool, Option, false, Ok, Err, IfErr, OnOk, IsTrue, IsErrOf, is_ok};
 ghost use Rattle.loc_outside.specs.Causes.{Rose};
 ghost use Rattle.byte_feed.specs.Front.{Window};
-ghost use Rattle.byte_feed.specs.Feed.{FeedState, reach, Draws};
+ghost use Rattle.byte_feed.specs.Feed.{FeedState};
 ghost use Rattle.byte_feed.specs.Endings.{StopsAt};
-ghost use Rattle.byte_feed.specs.Paths.{PathAt, ToCome, after_paths, no_paths, IsPath};
-ghost use Rattle.byte_feed.specs.Calls.{MovedKnown, EndsKnown, PreambleKnown, NoPreambleKnown, is_found};
+ghost use Rattle.byte_feed.specs.Paths.{PathAt, ToCome, after_paths, no_paths};
+ghost use Rattle.byte_feed.specs.Calls.{MovedKnown, EndsKnown, PreambleKnown, NoPreambleKnown, ReadsAhead, PlaceBehind, PlaceMoves, IsFound, is_found};
 
 use crate::damage::DbFault;
 use loc_outside::Source;
@@ -16,8 +16,8 @@ pub trait PathStream {
     /// What was read ahead.
     ghost feed: { Self → FeedState };
 
-    /// The length of the file's first part, and whether its paths are shown only to those who may list their
-    /// directories, where that part is whole.
+    /// The length of the file's preamble, and whether its paths are shown only to those who may list their directories,
+    /// where it is whole. It is mlocate's header, LOCATE02's first entry or the table of pairs.
     ghost preamble: { Self → Window → Option (ℕ × Bool) };
 
     /// The paths still to come, and how the file ends after them.
@@ -41,24 +41,18 @@ pub trait PathStream {
     /// The number of directory heads among them.
     ghost heads_read: { Self → ℕ };
 
-    /// Reads what stands before the first path: a header, a preamble or a table. It is refused where that part is not
-    /// whole.
+    /// Reads the preamble. It is refused where that is not whole.
     fn begin_paths<S: Source>(&mut self, src: &mut S) -> Result<(), DbFault>
         requires { IsTrue (is_fresh self.old) }
-        ensures begun { OnOk result (PreambleKnown (preamble self.old) (feed self.old) (S.left src.old) (stored self.new) (is_gated self.new)) }
+        ensures preamble { OnOk result (PreambleKnown (preamble self.old) (feed self.old) (S.left src.old) (stored self.new) (is_gated self.new)) }
         ensures ok { OnOk result (MovedKnown (to_come self.old) (to_come self.new) (λ t. t) (feed self.old) (S.left src.old) (feed self.new) (S.left src.new)) }
         ensures refused { IfErr result (λ e. NoPreambleKnown (preamble self.old) (feed self.old) (S.left src.old) (S.left src.new) e) }
         ensures err { IfErr result (λ e. EndsKnown (to_come self.old) (no_paths 0 0) (feed self.old) (S.left src.old) (S.left src.new) (Err e)) }
         ensures stops { IfErr result (λ e. StopsAt (feed self.new) 0 (Err e)) }
-        ensures grows { OnOk result (0 < stored self.new) }
-        ensures stays { OnErr result (stored self.new ≡ 0) }
-        ensures bound { stored self.new ≤ 2 ^ 40 }
-        ensures heads { heads_read self.new ≡ 0 }
+        ensures place { PlaceBehind result (stored self.new) (heads_read self.new) }
         ensures live { is_live self.new ≡ is_ok result }
         ensures spent { is_fresh self.new ≡ false }
-        ensures drawn { Draws (feed self.old) (feed self.new) (S.given src.old) (S.given src.new) (S.left src.old) (S.left src.new) }
-        ensures held { length (feed self.new).held ≤ 4096 }
-        ensures reach { reach (feed self.new) ≤ 2 ^ 40 }
+        ensures ahead { ReadsAhead (feed self.old) (feed self.new) (S.given src.old) (S.given src.new) (S.left src.old) (S.left src.new) }
         ensures fault { IsErrOf result DbFault.ReadFault → Rose (S.faults src.old) (S.faults src.new) }
         ensures later { S.faults src.old ≤ S.faults src.new }
         ensures kept { S.kept src.old src.new };
@@ -72,19 +66,12 @@ pub trait PathStream {
         ensures err { IfErr result (λ e. EndsKnown (to_come self.old) (no_paths (stored self.new) (heads_read self.new)) (feed self.old) (S.left src.old) (S.left src.new) (Err e)) }
         ensures whole { result ≡ Ok false → StopsAt (feed self.new) (stored self.new) (Ok tt) }
         ensures stops { IfErr result (λ e. StopsAt (feed self.new) (stored self.new) (Err e)) }
-        ensures near { (feed self.new).offset ≤ stored self.new + 2 ^ 14 }
-        ensures text { IsTrue (is_found result) → IsPath (found self.new).text }
-        ensures dir { IsTrue (is_found result) → (found self.new).dir_len ≤ length (found self.new).text }
-        ensures at { IsTrue (is_found result) → ((found self.new).place ≡ stored self.new) × ((found self.new).heads ≡ heads_read self.new) }
+        ensures found { IsTrue (is_found result) → IsFound (found self.new) (stored self.new) (heads_read self.new) }
         ensures grows { IsTrue (is_found result) → stored self.old < stored self.new }
-        ensures forth { stored self.old ≤ stored self.new }
-        ensures bound { stored self.new ≤ 2 ^ 40 }
-        ensures heads { heads_read self.new ≤ stored self.new }
+        ensures place { PlaceMoves (feed self.new) (stored self.old) (stored self.new) (heads_read self.new) }
         ensures gate { is_gated self.new ≡ is_gated self.old }
         ensures live { is_live self.new ≡ is_found result }
-        ensures drawn { Draws (feed self.old) (feed self.new) (S.given src.old) (S.given src.new) (S.left src.old) (S.left src.new) }
-        ensures held { length (feed self.new).held ≤ 4096 }
-        ensures reach { reach (feed self.new) ≤ 2 ^ 40 }
+        ensures ahead { ReadsAhead (feed self.old) (feed self.new) (S.given src.old) (S.given src.new) (S.left src.old) (S.left src.new) }
         ensures fault { IsErrOf result DbFault.ReadFault → Rose (S.faults src.old) (S.faults src.new) }
         ensures later { S.faults src.old ≤ S.faults src.new }
         ensures kept { S.kept src.old src.new };

@@ -8,7 +8,7 @@ use Rattle.loc_outside.specs.Outside.{AppendsPart}
 use Rattle.database_update.specs.declared.fault.UpdateFault.{UpdateFault}
 use Rattle.database_update.specs.declared.fault.UpdateFault.TheVariants.{BadConf, BadMount, ReadFault, RootMissing, TreeFault, WriteFault, TooManyNames, TooManyDirectories, OutOfMemory}
 use Rattle.database_update.specs.Faults.{is_of_scan}
-use Rattle.database_update.specs.Holding.{GrowsPart, Leaves, PendsPart, none_pending, pending_in, stored_in, with_file, with_pending}
+use Rattle.database_update.specs.Holding.{GrowsPart, LeavesHeld, PendsPart, none_pending, pending_in, stored_in, with_file, with_pending}
 
 -- ---- bytes that are pending
 
@@ -64,7 +64,7 @@ none_after name None b c e s = s ∙ e
 none_after name (Some held) b c e s = s ∙ e
 
 pub leaves_scan : (fault : UpdateFault) (name text : List ℕ) (a b c : Option Held) → IsTrue (is_of_scan fault) → b ≡ option_map (begun name) a → GrowsPart text b c → (fault ≡ RootMissing → c ≡ b)
-    → Leaves fault name text a c
+    → LeavesHeld fault name text a c
 leaves_scan (BadConf line cause) name text a b c scan e part none = absurd cc
 leaves_scan (BadMount line cause) name text a b c scan e part none = absurd cc
 leaves_scan (ReadFault file) name text a b c scan e part none = absurd cc
@@ -77,11 +77,11 @@ leaves_scan OutOfMemory name text a b c scan e part none = inr (part_after name 
 
 -- where the whole text was taken, and the commit failed
 pub leaves_whole : (fault : UpdateFault) (name text : List ℕ) (a b c d : Option Held) → fault ≡ WriteFault → b ≡ option_map (begun name) a → c ≡ option_map (grown text) b → d ≡ c
-    → Leaves fault name text a d
+    → LeavesHeld fault name text a d
 leaves_whole fault name text a b c d w e g s =
     let pends : d ≡ option_map (with_pending name text) a = s ∙ g ∙ ap (option_map (grown text)) e ∙ grown_begun name text a in
     let part : PendsPart name text a d = (length text, omega arith, pends ∙ ap (λ (t : List ℕ). option_map (with_pending name t) a) (sym (take-length text))) in
-    subst (λ (f : UpdateFault). Leaves f name text a d) (sym w) (inr part)
+    subst (λ (f : UpdateFault). LeavesHeld f name text a d) (sym w) (inr part)
 
 -- the whole of a text is a first part of it
 pub appends_whole : (a b c : Option (List ℕ)) (text : List ℕ) → Appends a b text → c ≡ b → AppendsPart a c text

@@ -1,5 +1,5 @@
 -- What an update does, by where it ended: while it read its settings, or afterwards.
-use Rattle.std.specs.Prelude.{IfErr, IsErrAnd, IsErrOf, IsOk, IsSome, IsTrue, OnErr, OnOk}
+use Rattle.std.specs.Prelude.{IfErr, IfOk, IsErrAnd, IsErrOf, IsOk, IsSome, IsTrue, OnErr, OnOk}
 use Rattle.std.proofs.Common.{◌≡◌, ◌≤◌, ◌<◌, ◌⊎◌, ◌+◌, ℕ, Bool, true, false, List, [], length, Option, Some, None, Result, Ok, Err, inl, inr, refl, sym, ap, subst, ◌∙◌, arith}
 use Rattle.std.specs.FinMap.{entries, get}
 use Rattle.std.specs.Option.{option_map}
@@ -14,25 +14,33 @@ use Rattle.tree_scan.specs.declared.rules.Counts.{Counts}
 use Rattle.tree_scan.specs.Blocks.{scan_text}
 use Rattle.tree_scan.specs.Plan.{Plan}
 use Rattle.tree_scan.specs.Reach.{reached, tried}
-use Rattle.tree_scan.specs.Walks.{HasWide, Narrow}
+use Rattle.tree_scan.specs.Scans.{AskedOf, Completed, Failures, usual}
+use Rattle.tree_scan.specs.Stops.{HasWide, Narrow}
+use Rattle.tree_scan.specs.declared.rules.ScanFault.{ScanFault}
+use Rattle.tree_scan.specs.declared.rules.ScanFault.TheVariants as scan_faults
+use Rattle.tree_scan.proofs.Ends as ends
 use Rattle.database_update.specs.declared.settings_file.SettingsFile.{SettingsFile}
 use Rattle.database_update.specs.declared.settings_file.SettingsFile.TheVariants.{Configuration, Mounts}
 use Rattle.database_update.specs.declared.fault.UpdateFault.{UpdateFault}
 use Rattle.database_update.specs.declared.fault.UpdateFault.TheVariants.{BadConf, BadMount, ReadFault, RootMissing, TreeFault, WriteFault, TooManyNames, TooManyDirectories, OutOfMemory}
-use Rattle.database_update.specs.Faults.{is_early, is_from_outside, is_of_scan, is_of_settings, is_refusal}
-use Rattle.database_update.specs.Holding.{Begins, Leaves, stored_in, with_file, with_pending}
-use Rattle.database_update.specs.Scans.{AskedOf, Completed, Exceeded, Failures, Found, Left}
+use Rattle.database_update.specs.Faults.{fault_of, is_early, is_from_outside, is_of_scan, is_of_settings, is_refusal}
+use Rattle.database_update.specs.Holding.{Begins, LeavesHeld, stored_in, with_file, with_pending}
+use Rattle.database_update.specs.Scans.{Left, ScanExceeded, ScanFound}
 use Rattle.database_update.specs.Settings.{conf_in, plan_in}
 use Rattle.database_update.specs.SettingsFiles.{both_read, name_of, read_most}
 use Rattle.database_update.specs.Updates.{AfterFault, Around, Bounded, Caused, Required, Same, Stored, UpdateDoes}
 use Rattle.database_update.proofs.MemoryLemmas.{scan_hides_none}
-use Rattle.database_update.proofs.ToldLemmas.{told_by}
+use Rattle.database_update.proofs.ScanLemmas.{err_is, unvouched_all}
+use Rattle.database_update.proofs.ToldLemmas.{on_ok, told_by}
 
 -- ---- by what was answered
 
-pub on_ok_by : {T E : Type 0} (r : Result T E) (P : Type 0) → ((x : T) → r ≡ Ok x → P) → OnOk r P
-on_ok_by (Ok x) P h = h x refl
-on_ok_by (Err e) P h = tt
+pub if_ok_by : {T E : Type 0} (r : Result T E) (P : T → Type 0) → ((x : T) → r ≡ Ok x → P x) → IfOk r P
+if_ok_by (Ok x) P h = h x refl
+if_ok_by (Err e) P h = tt
+
+with_ok : {T E : Type 0} (r : Result T E) (x : T) (P : T → Type 0) → r ≡ Ok x → IfOk r P → P x
+with_ok {T} {E} r x P is h = subst (λ (q : Result T E). IfOk q P) is h
 
 pub if_err_by : {T E : Type 0} (r : Result T E) (P : E → Type 0) → ((e : E) → r ≡ Err e → P e) → IfErr r P
 if_err_by (Ok x) P h = tt
@@ -56,7 +64,7 @@ ok_is {T} {E} r x is = subst (λ (q : Result T E). IsOk q) (sym is) refl
 other : (kind : UpdateFault → Bool) (f x : UpdateFault) (P : Type 0) → IsTrue (kind f) → f ≡ x → kind x ≡ false → P
 other kind f x P so is not = let both : kind f ≡ kind x = ap kind is in absurd cc
 
-pub leaves_none : (f : UpdateFault) (name text : List ℕ) (h : Option Held) → IsTrue (is_of_settings f) → Leaves f name text h h
+pub leaves_none : (f : UpdateFault) (name text : List ℕ) (h : Option Held) → IsTrue (is_of_settings f) → LeavesHeld f name text h h
 leaves_none (BadConf line cause) name text h so = refl
 leaves_none (BadMount line cause) name text h so = refl
 leaves_none (ReadFault file) name text h so = refl
@@ -78,46 +86,55 @@ begins_none TooManyNames n so = absurd cc
 begins_none TooManyDirectories n so = absurd cc
 begins_none OutOfMemory n so = inl refl
 
+-- where such a fault is one of a scan, it tells of no limit, nor of the root
+bare_early : (f : UpdateFault) (x : ScanFault) → IsTrue (is_of_settings f) → f ≡ fault_of x → ends.is_bare x ≡ true
+bare_early f scan_faults.RootMissing so is = other is_of_settings f RootMissing _ so is refl
+bare_early f scan_faults.TreeFault so is = refl
+bare_early f scan_faults.WriteFault so is = refl
+bare_early f scan_faults.TooManyNames so is = other is_of_settings f TooManyNames _ so is refl
+bare_early f scan_faults.TooManyDirectories so is = other is_of_settings f TooManyDirectories _ so is refl
+bare_early f scan_faults.OutOfMemory so is = refl
+
+within_early : (f : UpdateFault) (x : ScanFault) → IsTrue (is_of_settings f) → f ≡ fault_of x → ends.is_within x ≡ true
+within_early f scan_faults.RootMissing so is = refl
+within_early f scan_faults.TreeFault so is = refl
+within_early f scan_faults.WriteFault so is = refl
+within_early f scan_faults.TooManyNames so is = other is_of_settings f TooManyNames _ so is refl
+within_early f scan_faults.TooManyDirectories so is = other is_of_settings f TooManyDirectories _ so is refl
+within_early f scan_faults.OutOfMemory so is = refl
+
+silent_early : (f : UpdateFault) (x : ScanFault) → IsTrue (is_of_settings f) → f ≡ fault_of x → ends.is_silent x ≡ true
+silent_early f scan_faults.RootMissing so is = refl
+silent_early f scan_faults.TreeFault so is = other is_of_settings f TreeFault _ so is refl
+silent_early f scan_faults.WriteFault so is = refl
+silent_early f scan_faults.TooManyNames so is = other is_of_settings f TooManyNames _ so is refl
+silent_early f scan_faults.TooManyDirectories so is = other is_of_settings f TooManyDirectories _ so is refl
+silent_early f scan_faults.OutOfMemory so is = refl
+
 pub left_none : (f : UpdateFault) (name : List ℕ) (now : Moment) (dirs : Dirs) (plan : Plan) (h : Option Held) (e : Option (List ℕ)) (same : Type 0) → IsTrue (is_of_settings f) → same → Left f name now dirs plan h h e e same
 left_none f name now dirs plan h e same so kept = record {
   leaves = leaves_none f name _ h so;
-  follows = inl (refl, kept);
+  echo_part = part_none e _;
+  wrote = inl (refl, kept);
   unwritten = λ was none. (refl, kept);
-  stopped = record {
-    echo_part = part_none e _;
-    whole_tree = λ was. other is_of_settings f _ _ so was refl;
-    stops = λ was. other is_of_settings f _ _ so was refl;
-    whole_names = λ was. other is_of_settings f _ _ so was refl;
-    stops_wide = λ was. other is_of_settings f _ _ so was refl;
-    whole_directories = λ was. other is_of_settings f _ _ so was refl;
-    stops_full = λ was. other is_of_settings f _ _ so was refl;
-  };
+  stopped = λ x is. ends.at_silent x usual [] true now dirs plan _ _ (silent_early f x so is);
 }
 
 pub no_root : {P : Type 0} (f : UpdateFault) → IsTrue (is_of_settings f) → f ≡ RootMissing → P
 no_root {P} f so was = other is_of_settings f RootMissing P so was refl
 
-pub found_none : (f : UpdateFault) (root : List ℕ) (dirs : Dirs) → IsTrue (is_of_settings f) → Found f root dirs
-found_none f root dirs so = record {
-  missing = λ was. other is_of_settings f _ _ so was refl;
-  wide_there = λ was. other is_of_settings f _ _ so was refl;
-  many_there = λ was. other is_of_settings f _ _ so was refl;
-}
+pub found_none : (f : UpdateFault) (root : List ℕ) (dirs : Dirs) → IsTrue (is_of_settings f) → ScanFound f root dirs
+found_none f root dirs so = λ x is. ends.found_none x usual root dirs (bare_early f x so is)
 
-pub exceeded_none : (f : UpdateFault) (dirs : Dirs) (plan : Plan) → IsTrue (is_of_settings f) → Exceeded f dirs plan
-exceeded_none f dirs plan so = record {
-  wide_reached = λ was. other is_of_settings f _ _ so was refl;
-  many_tried = λ was. other is_of_settings f _ _ so was refl;
-}
+pub exceeded_none : (f : UpdateFault) (dirs : Dirs) (plan : Plan) → IsTrue (is_of_settings f) → ScanExceeded f dirs plan
+exceeded_none f dirs plan so = λ x is. ends.exceeded_none x usual [] true dirs plan (within_early f x so is)
 
-err_is : (f x : UpdateFault) → IsErrOf {T = Counts} {E = UpdateFault} (Err f) x → f ≡ x
-err_is f x e = cc
-
-pub failures_none : (verbose : Bool) (f : UpdateFault) (t o p : ℕ) → IsTrue (is_of_settings f) → Failures verbose (Err f) t t o o p p
+pub failures_none : (verbose : Bool) (f : UpdateFault) (t o p : ℕ) → IsTrue (is_of_settings f)
+    → Failures verbose (IsErrOf {T = Counts} {E = UpdateFault} (Err f) TreeFault) (IsErrOf {T = Counts} {E = UpdateFault} (Err f) WriteFault) t t o o p p
 failures_none verbose f t o p so = record {
   tree_later = omega arith;
-  output_later = omega arith;
-  out_later = omega arith;
+  sink_later = omega arith;
+  echo_later = omega arith;
   tree_fault = λ was. other is_of_settings f _ _ so (err_is f TreeFault was) refl;
   write_fault = λ was. other is_of_settings f _ _ so (err_is f WriteFault was) refl;
 }
@@ -208,18 +225,18 @@ both_written no_a no_b (inl a) = no_a a
 both_written no_a no_b (inr (v, b)) = no_b v b
 
 -- where nothing is in the way, a fault of the scan is that memory ran out
-pub memory_late : (f : UpdateFault) (dirs : Dirs) (plan : Plan) (verbose : Bool) (t t' o o' p p' : ℕ) → IsTrue (is_of_scan f) → Found f plan.root dirs → Exceeded f dirs plan → Failures verbose (Err f) t t' o o' p p'
+pub memory_late : (f : UpdateFault) (dirs : Dirs) (plan : Plan) (verbose : Bool) (t t' o o' p p' : ℕ) → IsTrue (is_of_scan f) → ScanFound f plan.root dirs → ScanExceeded f dirs plan → Failures verbose (IsErrOf {T = Counts} {E = UpdateFault} (Err f) TreeFault) (IsErrOf {T = Counts} {E = UpdateFault} (Err f) WriteFault) t t' o o' p p'
     → IsSome (get dirs plan.root) → Narrow 16777216 (reached dirs plan.pruned plan.root) → length (tried dirs plan.pruned plan.root) ≤ 4294967295
     → (Rose t t' → ⊥) → (Rose o o' → ⊥) → (IsTrue verbose → Rose p p' → ⊥) → f ≡ OutOfMemory
 memory_late (BadConf line cause) dirs plan verbose t t' o o' p p' so found exceeded failed there narrow few no_t no_o no_p = absurd cc
 memory_late (BadMount line cause) dirs plan verbose t t' o o' p p' so found exceeded failed there narrow few no_t no_o no_p = absurd cc
 memory_late (ReadFault file) dirs plan verbose t t' o o' p p' so found exceeded failed there narrow few no_t no_o no_p = absurd cc
-memory_late RootMissing dirs plan verbose t t' o o' p p' so found exceeded failed there narrow few no_t no_o no_p = let gone : get dirs plan.root ≡ None = found.missing refl in
+memory_late RootMissing dirs plan verbose t t' o o' p p' so found exceeded failed there narrow few no_t no_o no_p = let gone : get dirs plan.root ≡ None = (found scan_faults.RootMissing refl).missing refl in
     let both : IsSome {T = Dir} None = subst IsSome gone there in absurd cc
 memory_late TreeFault dirs plan verbose t t' o o' p p' so found exceeded failed there narrow few no_t no_o no_p = absurd (no_t (failed.tree_fault refl))
 memory_late WriteFault dirs plan verbose t t' o o' p p' so found exceeded failed there narrow few no_t no_o no_p = absurd (both_written no_o no_p (failed.write_fault refl))
-memory_late TooManyNames dirs plan verbose t t' o o' p p' so found exceeded failed there narrow few no_t no_o no_p = absurd (narrow_not_wide 16777216 (reached dirs plan.pruned plan.root) narrow (exceeded.wide_reached refl))
-memory_late TooManyDirectories dirs plan verbose t t' o o' p p' so found exceeded failed there narrow few no_t no_o no_p = let many : 4294967295 < length (tried dirs plan.pruned plan.root) = exceeded.many_tried refl in absurd (omega arith)
+memory_late TooManyNames dirs plan verbose t t' o o' p p' so found exceeded failed there narrow few no_t no_o no_p = absurd (narrow_not_wide 16777216 (reached dirs plan.pruned plan.root) narrow (subst (HasWide 16777216) (unvouched_all plan (reached dirs plan.pruned plan.root)) ((exceeded scan_faults.TooManyNames refl).wide_reached refl refl)))
+memory_late TooManyDirectories dirs plan verbose t t' o o' p p' so found exceeded failed there narrow few no_t no_o no_p = let many : 4294967295 < length (tried dirs plan.pruned plan.root) = (exceeded scan_faults.TooManyDirectories refl).many_tried refl in absurd (omega arith)
 memory_late OutOfMemory dirs plan verbose t t' o o' p p' so found exceeded failed there narrow few no_t no_o no_p = refl
 
 -- what is held back at the end, whatever was answered
@@ -239,31 +256,29 @@ pub record Went (asked : UpdatedbAsked) (now : Moment) (a a' : Around) (same : S
   pub conf_alone : (files : Files) (fault : UpdateFault) → a.files ≡ Some files → conf_in files asked ≡ Err fault → a'.given ≤ a.given + read_most Configuration (get files (name_of Configuration))
   pub reads_later : a.reads_failed ≤ a'.reads_failed
   pub stored : OnOk r ((dirs : Dirs) → a.dirs ≡ Some dirs → a'.held ≡ option_map (with_file asked.output (scan_text dirs plan now)) a.held)
-  pub completed : OnOk r ((dirs : Dirs) → a.dirs ≡ Some dirs → Completed dirs plan a.taken a'.taken a.openings a'.openings)
-  pub begun : OnOk r (a'.begins ≡ raised a.begins 1)
-  pub flushed : OnOk r (IsTrue plan.verbose → a'.held_back ≡ 0)
+  pub completed : IfOk r (λ counts. (dirs : Dirs) → a.dirs ≡ Some dirs → Completed usual [] true dirs plan counts a.taken a'.taken a.openings a'.openings)
+  pub ended : OnOk r ((a'.begins ≡ raised a.begins 1) × (IsTrue plan.verbose → a'.held_back ≡ 0))
   pub unstored : OnErr r (stored_in a'.held ≡ stored_in a.held)
   pub left : IfErr r (λ fault. (dirs : Dirs) → a.dirs ≡ Some dirs → Left fault asked.output now dirs plan a.held a'.held a.taken a'.taken same.out)
-  pub begins : IfErr r (λ fault. Begins fault a.begins a'.begins)
+  pub begins : IfErr r (λ fault. IsTrue (is_of_scan fault) × Begins fault a.begins a'.begins)
   pub held_back : OnErr r (IsTrue plan.verbose → (Rose a.writes_failed a'.writes_failed → ⊥) → a.held_back ≡ 0 → a'.held_back ≡ 0)
   pub empty : IsErrOf r RootMissing → (a'.held ≡ option_map (with_pending asked.output []) a.held) × same.out
-  pub scan : IfErr r (λ fault. IsTrue (is_of_scan fault))
-  pub found : IfErr r (λ fault. (dirs : Dirs) → a.dirs ≡ Some dirs → Found fault plan.root dirs)
-  pub exceeded : IfErr r (λ fault. (dirs : Dirs) → a.dirs ≡ Some dirs → Exceeded fault dirs plan)
+  pub found : IfErr r (λ fault. (dirs : Dirs) → a.dirs ≡ Some dirs → ScanFound fault plan.root dirs)
+  pub exceeded : IfErr r (λ fault. (dirs : Dirs) → a.dirs ≡ Some dirs → ScanExceeded fault dirs plan)
   pub lacking : (dirs : Dirs) → a.dirs ≡ Some dirs → get dirs plan.root ≡ None → IsErrOf r RootMissing ⊎ (IsErrOf r TreeFault ⊎ IsErrOf r WriteFault)
-  pub failures : Failures plan.verbose r a.tree_failed a'.tree_failed a.output_failed a'.output_failed a.writes_failed a'.writes_failed
-  pub asked_of : (dirs : Dirs) → a.dirs ≡ Some dirs → AskedOf dirs plan a.priced a.openings a'.openings a.stats a'.stats
+  pub failures : Failures plan.verbose (IsErrOf r TreeFault) (IsErrOf r WriteFault) a.tree_failed a'.tree_failed a.output_failed a'.output_failed a.writes_failed a'.writes_failed
+  pub asked_of : (dirs : Dirs) → a.dirs ≡ Some dirs → AskedOf [] true dirs plan a.priced a.openings a'.openings a.stats a'.stats
   pub openings : a'.openings ≤ a.openings + 4294967295
   pub quiet : plan.verbose ≡ false → same.out
   pub same_held : same.out → a'.held_back ≡ a.held_back
 
-went_stored : (asked : UpdatedbAsked) (now : Moment) (a a' : Around) (same : Same) (plan : Plan) (r : Result Counts UpdateFault) → Went asked now a a' same plan r → (counts : Counts) → r ≡ Ok counts → Stored asked now a a'
+went_stored : (asked : UpdatedbAsked) (now : Moment) (a a' : Around) (same : Same) (plan : Plan) (r : Result Counts UpdateFault) → Went asked now a a' same plan r → (counts : Counts) → r ≡ Ok counts → Stored asked now counts a a'
 went_stored asked now a a' same plan r w counts is = record {
   accepted = λ files fs. ok_is _ _ (w.accepted files fs);
   stored = told_by a.files a.dirs asked plan _ w.accepted (at_ok r counts _ is w.stored);
-  completed = told_by a.files a.dirs asked plan _ w.accepted (at_ok r counts _ is w.completed);
-  passed_on = λ echoed. at_ok r counts _ is w.flushed (w.verbose ∙ echoed);
-  begun_once = at_ok r counts _ is w.begun;
+  completed = told_by a.files a.dirs asked plan _ w.accepted (with_ok r counts (λ n. (dirs : Dirs) → a.dirs ≡ Some dirs → Completed usual [] true dirs plan n a.taken a'.taken a.openings a'.openings) is w.completed);
+  passed_on = λ echoed. (at_ok r counts _ is w.ended).1 (w.verbose ∙ echoed);
+  begun_once = (at_ok r counts _ is w.ended).0;
   read_once = w.read_once;
 }
 
@@ -271,21 +286,21 @@ went_fault : (asked : UpdatedbAsked) (now : Moment) (a a' : Around) (same : Same
 went_fault asked now a a' same plan r w f is = record {
   unstored = at_err r f _ is w.unstored;
   left = told_by a.files a.dirs asked plan _ w.accepted (with_err r f (λ fault. (dirs : Dirs) → a.dirs ≡ Some dirs → Left fault asked.output now dirs plan a.held a'.held a.taken a'.taken same.out) is w.left);
-  begins = with_err r f (λ fault. Begins fault a.begins a'.begins) is w.begins;
-  early = λ early. not_early f (with_err r f (λ fault. IsTrue (is_of_scan fault)) is w.scan) early;
+  begins = (with_err r f (λ fault. IsTrue (is_of_scan fault) × Begins fault a.begins a'.begins) is w.begins).1;
+  early = λ early. not_early f ((with_err r f (λ fault. IsTrue (is_of_scan fault) × Begins fault a.begins a'.begins) is w.begins).0) early;
   empty = λ was. w.empty (is ∙ ap Err was);
 }
 
 went_caused : (asked : UpdatedbAsked) (now : Moment) (a a' : Around) (same : Same) (plan : Plan) (r : Result Counts UpdateFault) → Went asked now a a' same plan r → (f : UpdateFault) → r ≡ Err f → Caused asked a a' f
 went_caused asked now a a' same plan r w f is =
-    let scan : IsTrue (is_of_scan f) = with_err r f (λ fault. IsTrue (is_of_scan fault)) is w.scan in
+    let scan : IsTrue (is_of_scan f) = (with_err r f (λ fault. IsTrue (is_of_scan fault) × Begins fault a.begins a'.begins) is w.begins).0 in
     record {
       refused = λ so. not_refused f scan so;
       memory = scan_hides_none f scan;
       read_fault = λ file was. not_read f file scan was;
       in_hand = λ was. not_read f Mounts scan was;
-      found = λ dirs ds. subst (λ (root : List ℕ). Found f root dirs) w.root (with_err r f (λ fault. (dirs : Dirs) → a.dirs ≡ Some dirs → Found fault plan.root dirs) is w.found dirs ds);
-      exceeded = told_by a.files a.dirs asked plan _ w.accepted (with_err r f (λ fault. (dirs : Dirs) → a.dirs ≡ Some dirs → Exceeded fault dirs plan) is w.exceeded);
+      found = λ dirs ds. subst (λ (root : List ℕ). ScanFound f root dirs) w.root (with_err r f (λ fault. (dirs : Dirs) → a.dirs ≡ Some dirs → ScanFound fault plan.root dirs) is w.found dirs ds);
+      exceeded = told_by a.files a.dirs asked plan _ w.accepted (with_err r f (λ fault. (dirs : Dirs) → a.dirs ≡ Some dirs → ScanExceeded fault dirs plan) is w.exceeded);
     }
 
 went_memory : (asked : UpdatedbAsked) (now : Moment) (a a' : Around) (same : Same) (plan : Plan) (r : Result Counts UpdateFault) → Went asked now a a' same plan r → (f : UpdateFault) → r ≡ Err f
@@ -293,10 +308,10 @@ went_memory : (asked : UpdatedbAsked) (now : Moment) (a a' : Around) (same : Sam
     → (Rose a.tree_failed a'.tree_failed → ⊥) → (Rose a.output_failed a'.output_failed → ⊥) → (IsTrue plan.verbose → Rose a.writes_failed a'.writes_failed → ⊥) → f ≡ OutOfMemory
 went_memory asked now a a' same plan r w f is dirs ds there narrow few trees outputs writes =
     memory_late f dirs plan plan.verbose a.tree_failed a'.tree_failed a.output_failed a'.output_failed a.writes_failed a'.writes_failed
-    (with_err r f (λ fault. IsTrue (is_of_scan fault)) is w.scan)
-    (with_err r f (λ fault. (dirs : Dirs) → a.dirs ≡ Some dirs → Found fault plan.root dirs) is w.found dirs ds)
-    (with_err r f (λ fault. (dirs : Dirs) → a.dirs ≡ Some dirs → Exceeded fault dirs plan) is w.exceeded dirs ds)
-    (subst (λ (q : Result Counts UpdateFault). Failures plan.verbose q a.tree_failed a'.tree_failed a.output_failed a'.output_failed a.writes_failed a'.writes_failed) is w.failures)
+    ((with_err r f (λ fault. IsTrue (is_of_scan fault) × Begins fault a.begins a'.begins) is w.begins).0)
+    (with_err r f (λ fault. (dirs : Dirs) → a.dirs ≡ Some dirs → ScanFound fault plan.root dirs) is w.found dirs ds)
+    (with_err r f (λ fault. (dirs : Dirs) → a.dirs ≡ Some dirs → ScanExceeded fault dirs plan) is w.exceeded dirs ds)
+    (subst (λ (q : Result Counts UpdateFault). Failures plan.verbose (IsErrOf q TreeFault) (IsErrOf q WriteFault) a.tree_failed a'.tree_failed a.output_failed a'.output_failed a.writes_failed a'.writes_failed) is w.failures)
     there narrow few trees outputs writes
 
 went_required : (asked : UpdatedbAsked) (now : Moment) (a a' : Around) (same : Same) (plan : Plan) (r : Result Counts UpdateFault) → Went asked now a a' same plan r → Required asked a a' r
@@ -311,7 +326,7 @@ went_bounded : (asked : UpdatedbAsked) (now : Moment) (a a' : Around) (same : Sa
 went_bounded asked now a a' same plan r w = record {
   unready = λ files fault fs refused. not_both _ plan fault (w.accepted files fs) refused;
   quiet = λ quiet. w.quiet (w.verbose ∙ quiet);
-  passed_on = passed_by r plan.verbose _ _ _ w.flushed w.held_back (λ quiet. w.same_held (w.quiet quiet));
+  passed_on = passed_by r plan.verbose _ _ _ (on_ok r _ _ (λ e. e.1) w.ended) w.held_back (λ quiet. w.same_held (w.quiet quiet));
   given = w.given;
   given_most = w.given_most;
   conf_alone = w.conf_alone;
@@ -322,10 +337,10 @@ went_bounded asked now a a' same plan r w = record {
 
 pub went : (asked : UpdatedbAsked) (now : Moment) (a a' : Around) (same : Same) (plan : Plan) (r : Result Counts UpdateFault) → Went asked now a a' same plan r → UpdateDoes asked now a a' same r
 went asked now a a' same plan r w = record {
-  stored = on_ok_by r _ (went_stored asked now a a' same plan r w);
+  stored = if_ok_by r _ (went_stored asked now a a' same plan r w);
   after_fault = if_err_by r _ (went_fault asked now a a' same plan r w);
   caused = if_err_by r _ (went_caused asked now a a' same plan r w);
   required = went_required asked now a a' same plan r w;
-  failures = subst (λ (verbose : Bool). Failures verbose r a.tree_failed a'.tree_failed a.output_failed a'.output_failed a.writes_failed a'.writes_failed) w.verbose w.failures;
+  failures = subst (λ (verbose : Bool). Failures verbose (IsErrOf r TreeFault) (IsErrOf r WriteFault) a.tree_failed a'.tree_failed a.output_failed a'.output_failed a.writes_failed a'.writes_failed) w.verbose w.failures;
   bounded = went_bounded asked now a a' same plan r w;
 }

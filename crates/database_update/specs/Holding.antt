@@ -36,16 +36,16 @@ GrowsPart text old new = (n : ℕ) × (n ≤ length text) × (new ≡ option_map
 
 -- What a fault leaves of the output: a refusal of the settings leaves all as it was; after a fault of the scan the name is
 -- begun. A fault of writing, and want of memory, may come before and after.
-abbrev pub Leaves : UpdateFault → List ℕ → List ℕ → Option Held → Option Held → Type 0
-Leaves (BadConf line cause) name text old new = new ≡ old
-Leaves (BadMount line cause) name text old new = new ≡ old
-Leaves (ReadFault file) name text old new = new ≡ old
-Leaves RootMissing name text old new = new ≡ option_map (with_pending name []) old
-Leaves TreeFault name text old new = PendsPart name text old new
-Leaves WriteFault name text old new = (new ≡ old) ⊎ PendsPart name text old new
-Leaves TooManyNames name text old new = PendsPart name text old new
-Leaves TooManyDirectories name text old new = PendsPart name text old new
-Leaves OutOfMemory name text old new = (new ≡ old) ⊎ PendsPart name text old new
+abbrev pub LeavesHeld : UpdateFault → List ℕ → List ℕ → Option Held → Option Held → Type 0
+LeavesHeld (BadConf line cause) name text old new = new ≡ old
+LeavesHeld (BadMount line cause) name text old new = new ≡ old
+LeavesHeld (ReadFault file) name text old new = new ≡ old
+LeavesHeld RootMissing name text old new = new ≡ option_map (with_pending name []) old
+LeavesHeld TreeFault name text old new = PendsPart name text old new
+LeavesHeld WriteFault name text old new = (new ≡ old) ⊎ PendsPart name text old new
+LeavesHeld TooManyNames name text old new = PendsPart name text old new
+LeavesHeld TooManyDirectories name text old new = PendsPart name text old new
+LeavesHeld OutOfMemory name text old new = (new ≡ old) ⊎ PendsPart name text old new
 
 -- How many names a fault finds begun: none more after a refusal of the settings, one more after a fault of the scan. A fault
 -- of writing, and want of memory, may come before and after.

@@ -69,6 +69,6 @@ plan_in files asked = do
 
 -- What holds of the directories and of the plan, where the files and the directories are told and the files give a
 -- plan.
-abbrev pub Told : Option Files → Option Dirs → UpdatedbAsked → (Dirs → Plan → Type 0) → Type 0
-Told files dirs asked holds =
+abbrev pub WherePlanned : Option Files → Option Dirs → UpdatedbAsked → (Dirs → Plan → Type 0) → Type 0
+WherePlanned files dirs asked holds =
     (f : Files) (d : Dirs) (plan : Plan) → files ≡ Some f → dirs ≡ Some d → plan_in f asked ≡ Ok plan → holds d plan

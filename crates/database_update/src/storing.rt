@@ -1,17 +1,17 @@
 //! The scan into the output, and the commit.
-ghost use Rattle.std.specs.Prelude.{◌≡◌, ◌≢◌, ◌≤◌, ◌<◌, ◌+◌, ◌^◌, ◌⊎◌, length, false, [], option_map, Some, None, Ok, Err, OnOk, OnErr, IfOk, IfErr, IfSome, IsErrOf, IsSome, IsTrue};
+ghost use Rattle.std.specs.Prelude.{true, ◌≡◌, ◌≢◌, ◌≤◌, ◌<◌, ◌+◌, ◌^◌, ◌⊎◌, length, false, [], option_map, Some, None, Ok, Err, OnOk, OnErr, IfOk, IfErr, IfSome, IsErrOf, IsSome, IsTrue};
 ghost use Rattle.std.specs.FinMap.{get};
 ghost use Rattle.path_order.specs.Path.{is_normal};
 ghost use Rattle.loc_outside.specs.Causes.{Rose, raised};
 ghost use Rattle.loc_outside.specs.Held.{committed, emptied, grown};
 ghost use Rattle.loc_outside.specs.Trees.{Dirs};
-ghost use Rattle.tree_scan.specs.Blocks.{scan_text, scan_pieces, entries_of};
+ghost use Rattle.tree_scan.specs.Blocks.{scan_text};
 ghost use Rattle.tree_scan.specs.Plans.{plan_of};
-ghost use Rattle.tree_scan.specs.Reach.{reached};
-ghost use Rattle.tree_scan.specs.Walks.{LinesFollow};
+ghost use Rattle.tree_scan.specs.Scans.{AskedOf, Completed, Failures, Stopped, usual};
+ghost use Rattle.tree_scan.specs.Stops.{taken};
 ghost use Rattle.database_update.specs.Faults.{is_of_scan};
 ghost use Rattle.database_update.specs.Holding.{Begins, GrowsPart, pending_in, stored_in, with_file, with_pending};
-ghost use Rattle.database_update.specs.Scans.{AskedOf, Completed, Exceeded, Failures, Found, Left, Stopped};
+ghost use Rattle.database_update.specs.Scans.{Left, OfScan, ScanExceeded, ScanFound};
 
 use crate::fault::{UpdateFault, fault_of_scan};
 use loc_outside::{BufferedSink, Output, Tree};
@@ -32,18 +32,16 @@ fn scan_into<T: Tree, O: Output, P: BufferedSink>(
     requires version { rules.now.version < 2 }
     requires block { length (plan_of rules.now).block < 2 ^ 32 }
     ensures done { OnOk result ((dirs : Dirs) → T.dirs tree.old ≡ Some dirs → O.held output.new ≡ option_map (grown (scan_text dirs (plan_of rules.now) now)) (O.held output.old)) }
-    ensures completed { OnOk result ((dirs : Dirs) → T.dirs tree.old ≡ Some dirs → Completed dirs (plan_of rules.now) (P.taken out.old) (P.taken out.new) (T.openings tree.old) (T.openings tree.new)) }
-    ensures counts { IfOk result (λ counts. (dirs : Dirs) → T.dirs tree.old ≡ Some dirs → (counts.directories ≡ length (reached dirs (plan_of rules.now).pruned (plan_of rules.now).root)) × (counts.entries ≡ length (entries_of (reached dirs (plan_of rules.now).pruned (plan_of rules.now).root)))) }
+    ensures completed { IfOk result (λ counts. (dirs : Dirs) → T.dirs tree.old ≡ Some dirs → Completed usual [] true dirs (plan_of rules.now) counts (P.taken out.old) (P.taken out.new) (T.openings tree.old) (T.openings tree.new)) }
     ensures part { OnErr result ((dirs : Dirs) → T.dirs tree.old ≡ Some dirs → GrowsPart (scan_text dirs (plan_of rules.now) now) (O.held output.old) (O.held output.new)) }
-    ensures stopped { IfErr result (λ fault. (dirs : Dirs) → T.dirs tree.old ≡ Some dirs → Stopped fault now dirs (plan_of rules.now) (pending_in (O.held output.old)) (pending_in (O.held output.new)) (P.taken out.old) (P.taken out.new)) }
-    ensures follows { OnErr result ((dirs : Dirs) → T.dirs tree.old ≡ Some dirs → LinesFollow (scan_pieces dirs (plan_of rules.now) now) (pending_in (O.held output.old)) (pending_in (O.held output.new)) (P.taken out.old) (P.taken out.new)) }
+    ensures stopped { IfErr result (λ fault. (dirs : Dirs) → T.dirs tree.old ≡ Some dirs → OfScan fault (λ f. Stopped f usual [] true now dirs (plan_of rules.now) (taken (pending_in (O.held output.old)) (P.taken out.old)) (taken (pending_in (O.held output.new)) (P.taken out.new)))) }
     ensures untouched { IsErrOf result UpdateFault.RootMissing → (output.new ≡ output.old) × (out.new ≡ out.old) }
     ensures scan { IfErr result (λ fault. IsTrue (is_of_scan fault)) }
-    ensures found { IfErr result (λ fault. (dirs : Dirs) → T.dirs tree.old ≡ Some dirs → Found fault rules.now.root dirs) }
-    ensures exceeded { IfErr result (λ fault. (dirs : Dirs) → T.dirs tree.old ≡ Some dirs → Exceeded fault dirs (plan_of rules.now)) }
+    ensures found { IfErr result (λ fault. (dirs : Dirs) → T.dirs tree.old ≡ Some dirs → ScanFound fault rules.now.root dirs) }
+    ensures exceeded { IfErr result (λ fault. (dirs : Dirs) → T.dirs tree.old ≡ Some dirs → ScanExceeded fault dirs (plan_of rules.now)) }
     ensures lacking { (dirs : Dirs) → T.dirs tree.old ≡ Some dirs → get dirs rules.now.root ≡ None → IsErrOf result UpdateFault.RootMissing ⊎ IsErrOf result UpdateFault.TreeFault }
-    ensures failures { Failures rules.now.verbose result (T.faults tree.old) (T.faults tree.new) (O.faults output.old) (O.faults output.new) (P.faults out.old) (P.faults out.new) }
-    ensures asked_of { (dirs : Dirs) → T.dirs tree.old ≡ Some dirs → AskedOf dirs (plan_of rules.now) (T.priced tree.old) (T.openings tree.old) (T.openings tree.new) (T.stats tree.old) (T.stats tree.new) }
+    ensures failures { Failures rules.now.verbose (IsErrOf result UpdateFault.TreeFault) (IsErrOf result UpdateFault.WriteFault) (T.faults tree.old) (T.faults tree.new) (O.faults output.old) (O.faults output.new) (P.faults out.old) (P.faults out.new) }
+    ensures asked_of { (dirs : Dirs) → T.dirs tree.old ≡ Some dirs → AskedOf [] true dirs (plan_of rules.now) (T.priced tree.old) (T.openings tree.old) (T.openings tree.new) (T.stats tree.old) (T.stats tree.new) }
     ensures openings { T.openings tree.new ≤ T.openings tree.old + 4294967295 }
     ensures quiet { rules.now.verbose ≡ false → out.new ≡ out.old }
     ensures begins { O.begins output.new ≡ O.begins output.old }
@@ -126,21 +124,18 @@ pub(crate) fn store<T: Tree, O: Output, P: BufferedSink>(
     requires version { rules.now.version < 2 }
     requires block { length (plan_of rules.now).block < 2 ^ 32 }
     ensures stored { OnOk result ((dirs : Dirs) → T.dirs tree.old ≡ Some dirs → O.held output.new ≡ option_map (with_file name.now (scan_text dirs (plan_of rules.now) now)) (O.held output.old)) }
-    ensures completed { OnOk result ((dirs : Dirs) → T.dirs tree.old ≡ Some dirs → Completed dirs (plan_of rules.now) (P.taken out.old) (P.taken out.new) (T.openings tree.old) (T.openings tree.new)) }
-    ensures counts { IfOk result (λ counts. (dirs : Dirs) → T.dirs tree.old ≡ Some dirs → (counts.directories ≡ length (reached dirs (plan_of rules.now).pruned (plan_of rules.now).root)) × (counts.entries ≡ length (entries_of (reached dirs (plan_of rules.now).pruned (plan_of rules.now).root)))) }
-    ensures begun { OnOk result (O.begins output.new ≡ raised (O.begins output.old) 1) }
-    ensures flushed { OnOk result (IsTrue rules.now.verbose → P.held_back out.new ≡ 0) }
+    ensures completed { IfOk result (λ counts. (dirs : Dirs) → T.dirs tree.old ≡ Some dirs → Completed usual [] true dirs (plan_of rules.now) counts (P.taken out.old) (P.taken out.new) (T.openings tree.old) (T.openings tree.new)) }
+    ensures ended { OnOk result ((O.begins output.new ≡ raised (O.begins output.old) 1) × (IsTrue rules.now.verbose → P.held_back out.new ≡ 0)) }
     ensures unstored { OnErr result (stored_in (O.held output.new) ≡ stored_in (O.held output.old)) }
     ensures left { IfErr result (λ fault. (dirs : Dirs) → T.dirs tree.old ≡ Some dirs → Left fault name.now now dirs (plan_of rules.now) (O.held output.old) (O.held output.new) (P.taken out.old) (P.taken out.new) (out.new ≡ out.old)) }
-    ensures begins { IfErr result (λ fault. Begins fault (O.begins output.old) (O.begins output.new)) }
+    ensures begins { IfErr result (λ fault. IsTrue (is_of_scan fault) × Begins fault (O.begins output.old) (O.begins output.new)) }
     ensures held_back { OnErr result (IsTrue rules.now.verbose → (Rose (P.faults out.old) (P.faults out.new) → ⊥) → P.held_back out.old ≡ 0 → P.held_back out.new ≡ 0) }
     ensures empty { IsErrOf result UpdateFault.RootMissing → (O.held output.new ≡ option_map (with_pending name.now []) (O.held output.old)) × (out.new ≡ out.old) }
-    ensures scan { IfErr result (λ fault. IsTrue (is_of_scan fault)) }
-    ensures found { IfErr result (λ fault. (dirs : Dirs) → T.dirs tree.old ≡ Some dirs → Found fault rules.now.root dirs) }
-    ensures exceeded { IfErr result (λ fault. (dirs : Dirs) → T.dirs tree.old ≡ Some dirs → Exceeded fault dirs (plan_of rules.now)) }
+    ensures found { IfErr result (λ fault. (dirs : Dirs) → T.dirs tree.old ≡ Some dirs → ScanFound fault rules.now.root dirs) }
+    ensures exceeded { IfErr result (λ fault. (dirs : Dirs) → T.dirs tree.old ≡ Some dirs → ScanExceeded fault dirs (plan_of rules.now)) }
     ensures lacking { (dirs : Dirs) → T.dirs tree.old ≡ Some dirs → get dirs rules.now.root ≡ None → IsErrOf result UpdateFault.RootMissing ⊎ (IsErrOf result UpdateFault.TreeFault ⊎ IsErrOf result UpdateFault.WriteFault) }
-    ensures failures { Failures rules.now.verbose result (T.faults tree.old) (T.faults tree.new) (O.faults output.old) (O.faults output.new) (P.faults out.old) (P.faults out.new) }
-    ensures asked_of { (dirs : Dirs) → T.dirs tree.old ≡ Some dirs → AskedOf dirs (plan_of rules.now) (T.priced tree.old) (T.openings tree.old) (T.openings tree.new) (T.stats tree.old) (T.stats tree.new) }
+    ensures failures { Failures rules.now.verbose (IsErrOf result UpdateFault.TreeFault) (IsErrOf result UpdateFault.WriteFault) (T.faults tree.old) (T.faults tree.new) (O.faults output.old) (O.faults output.new) (P.faults out.old) (P.faults out.new) }
+    ensures asked_of { (dirs : Dirs) → T.dirs tree.old ≡ Some dirs → AskedOf [] true dirs (plan_of rules.now) (T.priced tree.old) (T.openings tree.old) (T.openings tree.new) (T.stats tree.old) (T.stats tree.new) }
     ensures openings { T.openings tree.new ≤ T.openings tree.old + 4294967295 }
     ensures quiet { rules.now.verbose ≡ false → out.new ≡ out.old }
     ensures tree_kept { T.kept tree.old tree.new }

@@ -1,9 +1,6 @@
 //! The update of a database.
-ghost use Rattle.std.specs.Prelude.{◌≡◌, length, IfOk};
+ghost use Rattle.std.specs.Prelude.{◌≡◌};
 ghost use Rattle.tool_words.specs.UpdatedbSeen.{seen};
-ghost use Rattle.tree_scan.specs.Blocks.{entries_of};
-ghost use Rattle.tree_scan.specs.Reach.{reached};
-ghost use Rattle.database_update.specs.Settings.{Told};
 ghost use Rattle.database_update.specs.Updates.{UpdateDoes};
 
 use crate::fault::UpdateFault;
@@ -35,7 +32,6 @@ pub fn update<R: Reader, T: Tree, O: Output, P: BufferedSink>(
         (record { files = R.files reader.new; given = R.given reader.new; reads_failed = R.faults reader.new; dirs = T.dirs tree.new; openings = T.openings tree.new; stats = T.stats tree.new; priced = T.priced tree.new; tree_failed = T.faults tree.new; held = O.held output.new; begins = O.begins output.new; output_failed = O.faults output.new; taken = P.taken out.new; held_back = P.held_back out.new; writes_failed = P.faults out.new })
         (record { tree = tree.new ≡ tree.old; output = output.new ≡ output.old; out = out.new ≡ out.old })
         result }
-    ensures counts { IfOk result (λ counts. Told (R.files reader.old) (T.dirs tree.old) (seen asked.now) (λ dirs plan. (counts.directories ≡ length (reached dirs plan.pruned plan.root)) × (counts.entries ≡ length (entries_of (reached dirs plan.pruned plan.root))))) }
     ensures files { R.files reader.new ≡ R.files reader.old }
     ensures tree_kept { T.kept tree.old tree.new }
     ensures out_kept { P.kept out.old out.new }

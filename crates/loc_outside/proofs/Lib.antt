@@ -1,5 +1,6 @@
 pub mod KnownSteps
 pub mod PartTaken
+pub mod LessTaken
 pub mod GatherLemmas
 mod StoredLemmas
 pub mod KeyedLemmas

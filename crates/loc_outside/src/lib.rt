@@ -8,7 +8,7 @@ mod put;
 mod traits;
 
 pub use host::{HostErr, HostFiles, HostGate, HostOut, HostOutput, HostTree};
-pub use memory::{MemFiles, MemGate, MemOutput, MemSink, MemTree, SliceSource};
+pub use memory::{ByteByByte, MemFiles, MemGate, MemOutput, MemSink, MemTree, SliceSource};
 pub use put::put_all;
 pub use traits::{
     BufferedSink, Failed, Gate, Listing, Opened, Output, Reader, Sink, Source, Times, Tree,

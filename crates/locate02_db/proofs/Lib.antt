@@ -5,6 +5,5 @@ pub mod ItemSteps
 pub mod ReaderSteps
 pub mod PathPieces
 pub mod Encoded
-pub mod WrittenParts
 pub mod Puts
 mod DamagedExamples

@@ -1,16 +1,18 @@
 -- What is counted of paths that are given one after another.
-use Rattle.std.proofs.Common.{append_assoc, ◌≡◌, ℕ, ◌+◌, ◌-◌, ◌^◌, ◌≤◌, Bool, true, false, cond, List, [], ◌∷◌, ◌++◌, length, take, drop, Option, Some, None, Ok, Err, IsTrue, IfSome, refl, sym, ap, subst, ◌∙◌, append-nil, length-append, length-drop, arith}
-use Rattle.std.specs.Prelude.{sum_by, slice_index, nat_le, ◌==◌}
+use Rattle.std.proofs.Common.{append_assoc, ◌≡◌, ℕ, ◌+◌, ◌-◌, ◌^◌, ◌≤◌, Bool, true, false, cond, List, [], ◌∷◌, ◌++◌, length, take, drop, Option, Some, None, Ok, Err, IfSome, refl, sym, ap, subst, ◌∙◌, append-nil, length-append, length-drop, arith}
+use Rattle.std.specs.Prelude.{sum_by, slice_index, ◌==◌, IsSome}
 use Rattle.std.proofs.lemmas.List.Sums.{sum_by_push}
-use Rattle.path_order.specs.Path.{joined}
-use Rattle.byte_feed.specs.declared.damage.DbFault.{DbFault}
-use Rattle.byte_feed.specs.declared.damage.DbFault.TheVariants as faults
 use Rattle.std.proofs.Math.Seq.{take-nil}
 use Rattle.std.specs.FinMap as map
-use Rattle.loc_outside.specs.Files.{Files}
-use Rattle.byte_feed.specs.Front.{Window, limit, readable, items_of, items_within}
-use Rattle.byte_feed.specs.Feed.{FeedState, empty_at, window, so_far, reach, Draws}
+use Rattle.path_order.specs.Path.{joined}
 use Rattle.loc_outside.specs.Causes.{raised}
+use Rattle.loc_outside.specs.Files.{Files}
+use Rattle.loc_outside.specs.Outside.{OpensAs}
+use Rattle.loc_outside.specs.declared.traits.bytes.Opened.{Opened}
+use Rattle.loc_outside.specs.declared.traits.bytes.Opened.TheVariants.{Found, Missing}
+use Rattle.byte_feed.specs.declared.damage.DbFault.TheVariants as faults
+use Rattle.byte_feed.specs.Front.{Window, limit, items_of, items_within}
+use Rattle.byte_feed.specs.Feed.{FeedState, empty_at, window, so_far, reach, Draws}
 use Rattle.byte_feed.specs.Endings.{Ending, StopsAt}
 use Rattle.byte_feed.specs.Paths.{PathAt, ToCome, after_paths, no_paths, rest_of}
 use Rattle.byte_feed.specs.Calls.{Moved, MovedKnown, EndsKnown}
@@ -21,8 +23,13 @@ use Rattle.any_db.specs.declared.any_reader.AnyReader.{AnyReader}
 use Rattle.locate_engine.specs.declared.outcome.Outcome.{Outcome}
 use Rattle.locate_engine.specs.declared.outcome.Outcome.TheVariants as outcomes
 use Rattle.locate_engine.specs.declared.counting.Stats.{Stats}
-use Rattle.locate_engine.specs.Searched.{outcome_of, is_read_fault}
-use Rattle.locate_engine.specs.Statistics.{name_len, counted, stats_of, no_stats, stats_after, Counts, CountsKnown, DamagedAt, Fits, ends_reading, read_in, read_on}
+use Rattle.locate_engine.specs.Files.{ReadsWithin}
+use Rattle.locate_engine.specs.Searched.{outcome_of, is_read_fault, seen_in}
+use Rattle.locate_engine.specs.Statistics.{name_len, counted, stats_of, no_stats, stats_after, Counts, CountsFile, CountsFound, DamagedAt, Fits}
+use Rattle.locate_engine.specs.Streamed.{CountsKnown, seen_of}
+use Rattle.locate_engine.proofs.Drawn.{once_opened, seen_by, seen_later}
+use Rattle.locate_engine.proofs.Endings.{off_on, on_off}
+use Rattle.locate_engine.proofs.Told.{if_found, if_missing}
 
 -- ---- names
 
@@ -65,12 +72,6 @@ name_within p = name_short p.heads p.dir_len p.text (p.heads == 0)
 
 -- ---- the end of the paths
 
-off_on : false ≡ true → ⊥
-off_on e = absurd cc
-
-on_off : true ≡ false → ⊥
-on_off e = absurd cc
-
 -- what was counted is what these paths have
 told : (given : List PathAt) (files bytes place heads : ℕ) (e : Ending) → files ≡ length given → bytes ≡ sum_by name_len given
     → counted heads files bytes place ≡ stats_of (after_paths given (no_paths place heads e))
@@ -82,10 +83,10 @@ told given files bytes place heads e many long =
 module _ (t t' : Window → ToCome) (given : List PathAt) (f f' : FeedState) (files bytes place heads : ℕ) (many : files ≡ length given) (long : bytes ≡ sum_by name_len given) where
   -- the file ended so
   by_ending : (a b : List ℕ) (n : ℕ) (e : Ending) → Moved t t' (after_paths given) f a f' b → t' (window f' b) ≡ no_paths place heads e → is_read_fault (outcome_of e) ≡ false
-      → Counts (read_on t f a n (outcome_of e)) (stats_after (outcome_of e) (counted heads files bytes place)) (outcome_of e)
+      → Counts (seen_of t f a n (outcome_of e)) (stats_after (outcome_of e) (counted heads files bytes place)) (outcome_of e)
   by_ending a b n e moved ends read =
       let whole : t (window f a) ≡ after_paths given (no_paths place heads e) = moved.whole ∙ ap (after_paths given) ends in
-      let same : read_on t f a n (outcome_of e) ≡ after_paths given (no_paths place heads e) = ap (λ (r : Bool). t (cond r (so_far f a n) (window f a))) read ∙ whole in
+      let same : seen_of t f a n (outcome_of e) ≡ after_paths given (no_paths place heads e) = ap (λ (r : Bool). t (cond r (so_far f a n) (window f a))) read ∙ whole in
       record {
         counts = ap (stats_after (outcome_of e)) (told given files bytes place heads e many long ∙ ap stats_of (sym same));
         ends = λ _. ap (λ (z : ToCome). outcome_of z.ending) (sym same);
@@ -112,11 +113,6 @@ module _ (t t' : Window → ToCome) (given : List PathAt) (f f' : FeedState) (fi
 
 -- ---- a stream that has moved on
 
-read_by : (b : Bool) (t t' : Window → ToCome) (f f' : FeedState) (l l' : List ℕ) (n : ℕ) → Moved t t' (λ x. x) f l f' l' → (b ≡ true → f'.ended ≡ false) → n ≤ length l'
-    → t' (cond b (so_far f' l' n) (window f' l')) ≡ t (cond b (so_far f l n) (window f l))
-read_by true t t' f f' l l' n moved on fewer = sym (moved.parts (on refl) n fewer)
-read_by false t t' f f' l l' n moved on fewer = sym moved.whole
-
 -- Nothing was given of the paths before they were counted.
 pub counts_before : (t t' : Window → ToCome) (f f' : FeedState) (l l' l'' : Option (List ℕ)) (stats : Stats) (result : Outcome)
     → MovedKnown t t' (λ x. x) f l f' l' → IfSome l' (λ a. IfSome l'' (λ b. length b ≤ length a)) → CountsKnown t' f' l' l'' stats result
@@ -126,7 +122,7 @@ counts_before t t' f f' (Some a) None l'' stats result moved fewer done = absurd
 counts_before t t' f f' (Some a) (Some b) None stats result moved fewer done = absurd done
 counts_before t t' f f' (Some a) (Some b) (Some c) stats result moved fewer done = (
   λ e. (moved.goes_on (done.0 e)).0,
-  subst (λ (seen : ToCome). Counts seen stats result) (read_by (is_read_fault result) t t' f f' a b (length c) moved done.0 fewer) done.1,
+  subst (λ (seen : ToCome). Counts seen stats result) (seen_later (is_read_fault result) t t' f f' a b (length c) moved done.0 fewer) done.1,
 )
 
 -- how much a stream drew is no more than was left
@@ -140,20 +136,6 @@ drawn_fewer f f' g g' (Some a) (Some b) drawn = omega (arith, ap length drawn.re
 pub no_database : (e : Ending) (stats : Stats) → outcome_of e ≡ outcomes.NotADatabase → stats_after (outcome_of e) stats ≡ no_stats
 no_database e stats is = ap (λ (o : Outcome). stats_after o stats) is
 
-pub not_missing : (e : Ending) → outcome_of e ≡ outcomes.Missing → ⊥
-not_missing (Ok x) is = absurd cc
-not_missing (Err faults.NotADatabase) is = absurd cc
-not_missing (Err (faults.Damage d)) is = absurd cc
-not_missing (Err faults.ReadFault) is = absurd cc
-not_missing (Err faults.TooLarge) is = absurd cc
-
-pub by_reading : (e : Ending) → IsTrue (ends_reading (outcome_of e))
-by_reading (Ok x) = refl
-by_reading (Err faults.NotADatabase) = refl
-by_reading (Err (faults.Damage d)) = refl
-by_reading (Err faults.ReadFault) = refl
-by_reading (Err faults.TooLarge) = refl
-
 -- Where reading stopped, the damage is.
 pub damaged_there : (e : Ending) (f : FeedState) (directories files bytes place : ℕ) → StopsAt f place e → DamagedAt (stats_after (outcome_of e) (counted directories files bytes place)).stored (outcome_of e)
 damaged_there (Ok x) f directories files bytes place stops = tt
@@ -161,19 +143,6 @@ damaged_there (Err faults.NotADatabase) f directories files bytes place stops = 
 damaged_there (Err (faults.Damage d)) f directories files bytes place stops = stops.0
 damaged_there (Err faults.ReadFault) f directories files bytes place stops = tt
 damaged_there (Err faults.TooLarge) f directories files bytes place stops = tt
-
-pub too_large_there : (e : Ending) (f : FeedState) (place : ℕ) → StopsAt f place e → outcome_of e ≡ outcomes.TooLarge → reach f ≡ 2 ^ 40
-too_large_there (Ok x) f place stops is = absurd cc
-too_large_there (Err faults.NotADatabase) f place stops is = absurd cc
-too_large_there (Err (faults.Damage d)) f place stops is = absurd cc
-too_large_there (Err faults.ReadFault) f place stops is = absurd cc
-too_large_there (Err faults.TooLarge) f place stops is = stops
-
-pub failed_there : (e : DbFault) → outcome_of (Err e) ≡ outcomes.ReadFault → e ≡ faults.ReadFault
-failed_there faults.NotADatabase is = absurd cc
-failed_there (faults.Damage d) is = absurd cc
-failed_there faults.ReadFault is = refl
-failed_there faults.TooLarge is = absurd cc
 
 -- what was counted fits, also where it is nothing
 pub fits_after : (e : Ending) (stats : Stats) → Fits stats → Fits (stats_after (outcome_of e) stats)
@@ -208,66 +177,38 @@ damaged_none (Err faults.TooLarge) f stops = tt
 
 -- ---- of a whole file
 
-whole_window : (file : List ℕ) → window (empty_at 0) file ≡ readable file
-whole_window file =
-    let end : 0 + length file ≡ length file = omega arith in
-    let room : limit - 0 ≡ limit = omega arith in
-    ap (λ (n : ℕ). record { bytes = take (limit - 0) file; more = nat_le limit n }) end ∙ ap (λ (n : ℕ). record { bytes = take n file; more = nat_le limit (length file) }) room
-
-part_window : (file left : List ℕ) (n : ℕ) → n ≤ length file → left ≡ drop n file
-    → so_far (empty_at 0) file (length left) ≡ record { bytes = take limit (take n file); more = true }
-part_window file left n fits rest =
-    let all : length file - length left ≡ n = omega (arith, fits, ap length rest, length-drop n file) in
-    let room : limit - 0 ≡ limit = omega arith in
-    ap (λ (k : ℕ). record { bytes = take (limit - 0) (take k file); more = true }) all ∙ ap (λ (k : ℕ). record { bytes = take k (take n file); more = true }) room
-
-raised_gap : (g n : ℕ) → g ≤ 2 ^ 63 → n ≤ 2 ^ 40 → raised g n - g ≡ n
-raised_gap g n small fits = omega (arith, small, fits)
-
-is_the_read_fault : (result : Outcome) → is_read_fault result ≡ true → result ≡ outcomes.ReadFault
-is_the_read_fault outcomes.ReadFault e = refl
-is_the_read_fault outcome e = absurd cc
-
-read_file : (rest : Window → ToCome) (b : Bool) (file left : List ℕ) (n k : ℕ) → n ≤ length file → left ≡ drop n file → (b ≡ true → k ≡ n)
-    → rest (cond b (so_far (empty_at 0) file (length left)) (window (empty_at 0) file)) ≡ cond b (rest (record { bytes = take limit (take k file); more = true })) (rest (readable file))
-read_file rest true file left n k fits those same =
-    ap rest (part_window file left n fits those) ∙ ap (λ (c : ℕ). rest (record { bytes = take limit (take c file); more = true })) (sym (same refl))
-read_file rest false file left n k fits those same = ap rest (whole_window file)
-
 -- What was counted from the first byte on was counted of the file.
-pub counts_file : (rest : Window → ToCome) (f : FeedState) (l l' : Option (List ℕ)) (g g' : ℕ) (stats : Stats) (result : Outcome)
-    → CountsKnown rest (empty_at 0) l l' stats result → Draws (empty_at 0) f g g' l l' → reach f ≤ 2 ^ 40
-    → IfSome l (λ file. (result ≡ outcomes.ReadFault → g ≤ 2 ^ 63) →
-    Counts (cond (is_read_fault result) (rest (record { bytes = take limit (take (g' - g) file); more = true })) (rest (readable file))) stats result)
-counts_file rest f None l' g g' stats result done drawn far = tt
-counts_file rest f (Some file) None g g' stats result done drawn far = absurd done
-counts_file rest f (Some file) (Some left) g g' stats result done drawn far = λ small.
-    let n : ℕ = reach f - reach (empty_at 0) in
-    let fits : n ≤ 2 ^ 40 = omega (arith, far) in
-    let gap : is_read_fault result ≡ true → g' - g ≡ n = λ yes. ap (λ (k : ℕ). k - g) drawn.count ∙ raised_gap g n (small (is_the_read_fault result yes)) fits in
-    subst (λ (z : ToCome). Counts z stats result) (read_file rest (is_read_fault result) file left n (g' - g) drawn.rest.0 drawn.rest.1 gap) done.1
+counts_file : (f : FeedState) (l l' : Option (List ℕ)) (g g' : ℕ) (stats : Stats) (result : Outcome) → CountsKnown to_come_in (empty_at 0) l l' stats result → Draws (empty_at 0) f g g' l l' → reach f ≤ 2 ^ 40
+    → IfSome l (λ file. (result ≡ outcomes.ReadFault → g ≤ 2 ^ 63) → Counts (seen_in file (g' - g) result) stats result)
+counts_file f None l' g g' stats result done drawn far = tt
+counts_file f (Some file) None g g' stats result done drawn far = absurd done
+counts_file f (Some file) (Some left) g g' stats result done drawn far = λ small. subst (λ (z : ToCome). Counts z stats result) (seen_by f g g' file left result drawn far small) done.1
 
-pub drawn_rises : (f f' : FeedState) (g g' : ℕ) (l l' : Option (List ℕ)) → Draws f f' g g' l l' → g ≤ g'
-drawn_rises f f' g g' l l' drawn = omega (arith, drawn.count)
+-- what a reader that had read nothing counted it counted of the file
+counts_opened : (r : AnyReader) → r ≡ fresh → (f : FeedState) (l l' : Option (List ℕ)) (g g' : ℕ) (stats : Stats) (result : Outcome)
+    → CountsKnown (paths_left r.stage) (feed_of r.stage) l l' stats result → Draws (feed_of r.stage) f g g' l l' → reach f ≤ 2 ^ 40
+    → IfSome l (λ file. (result ≡ outcomes.ReadFault → g ≤ 2 ^ 63) → Counts (seen_in file (g' - g) result) stats result)
+counts_opened r e f l l' g g' stats result done drawn far =
+    counts_file f l l' g g' stats result (subst (λ (q : AnyReader). CountsKnown (paths_left q.stage) (feed_of q.stage) l l' stats result) e done)
+    (subst (λ (q : AnyReader). Draws (feed_of q.stage) f g g' l l') e drawn) far
 
-pub drawn_within : (f f' : FeedState) (g g' : ℕ) (l l' : Option (List ℕ)) → Draws f f' g g' l l' → reach f' ≤ 2 ^ 40 → g' ≤ g + 2 ^ 40
-drawn_within f f' g g' l l' drawn far = omega (arith, drawn.count, far)
+file_counted : (l : Option (List ℕ)) (g g' : ℕ) (stats : Stats) (result : Outcome) → IfSome l (λ file. (result ≡ outcomes.ReadFault → g ≤ 2 ^ 63) → Counts (seen_in file (g' - g) result) stats result)
+    → IfSome l (λ file. ReadsWithin file g g' result) → (result ≡ outcomes.Missing → ⊥) → IfSome l (λ file. CountsFile file g g' stats result)
+file_counted None g g' stats result done read there = tt
+file_counted (Some file) g g' stats result done read there = record { exact = done; read = read; there = there }
+
+pub opened_counted : (r : AnyReader) → r ≡ fresh → (f : FeedState) (l l' : Option (List ℕ)) (g g' : ℕ) (stats : Stats) (result : Outcome)
+    → CountsKnown (paths_left r.stage) (feed_of r.stage) l l' stats result → Draws (feed_of r.stage) f g g' l l' → reach f ≤ 2 ^ 40
+    → (result ≡ outcomes.Whole → f.ended ≡ true) → (result ≡ outcomes.TooLarge → reach f ≡ 2 ^ 40) → (result ≡ outcomes.Missing → ⊥)
+    → IfSome l (λ file. CountsFile file g g' stats result)
+opened_counted r e f l l' g g' stats result done drawn far whole large there =
+    file_counted l g g' stats result (counts_opened r e f l l' g g' stats result done drawn far) (once_opened r e f g g' l l' result drawn whole large) there
 
 -- all up to the limit was drawn
-pub drawn_whole : (f : FeedState) (g g' : ℕ) (l l' : Option (List ℕ)) → Draws (empty_at 0) f g g' l l' → reach f ≡ 2 ^ 40 → g' ≡ raised g (2 ^ 40)
+drawn_whole : (f : FeedState) (g g' : ℕ) (l l' : Option (List ℕ)) → Draws (empty_at 0) f g g' l l' → reach f ≡ 2 ^ 40 → g' ≡ raised g (2 ^ 40)
 drawn_whole f g g' l l' drawn far =
     let all : reach f - reach (empty_at 0) ≡ 2 ^ 40 = omega (arith, far) in
     drawn.count ∙ ap (raised g) all
-
--- ---- by a reader that has read nothing
-
--- what such a reader counted it counted of the file
-pub counts_opened : (r : AnyReader) → r ≡ fresh → (f : FeedState) (l l' : Option (List ℕ)) (g g' : ℕ) (stats : Stats) (result : Outcome)
-    → CountsKnown (paths_left r.stage) (feed_of r.stage) l l' stats result → Draws (feed_of r.stage) f g g' l l' → reach f ≤ 2 ^ 40
-    → IfSome l (λ file. (result ≡ outcomes.ReadFault → g ≤ 2 ^ 63) → Counts (read_in file (g' - g) result) stats result)
-counts_opened r e f l l' g g' stats result done drawn far =
-    counts_file to_come_in f l l' g g' stats result (subst (λ (q : AnyReader). CountsKnown (paths_left q.stage) (feed_of q.stage) l l' stats result) e done)
-    (subst (λ (q : AnyReader). Draws (feed_of q.stage) f g g' l l') e drawn) far
 
 pub whole_drawn : (r : AnyReader) → r ≡ fresh → (f : FeedState) (l l' : Option (List ℕ)) (g g' : ℕ) → Draws (feed_of r.stage) f g g' l l' → reach f ≡ 2 ^ 40 → g' ≡ raised g (2 ^ 40)
 whole_drawn r e f l l' g g' drawn far = drawn_whole f g g' l l' (subst (λ (q : AnyReader). Draws (feed_of q.stage) f g g' l l') e drawn) far
@@ -283,18 +224,39 @@ nothing_given n file none =
     let all : record { bytes = take limit (take n file); more = true } ≡ record { bytes = []; more = true } = ap (λ (bytes : List ℕ). record { bytes = bytes; more = true }) (ap (λ (k : ℕ). take limit (take k file)) none ∙ take-nil limit) in
     ap (λ (w : Window). stats_of (to_come_in w)) all ∙ no_bytes true
 
-counts_unopened : (g g' : ℕ) → g' ≡ g → (file : List ℕ) → Counts (read_in file (g' - g) outcomes.ReadFault) no_stats outcomes.ReadFault
+counts_unopened : (g g' : ℕ) → g' ≡ g → (file : List ℕ) → CountsFile file g g' no_stats outcomes.ReadFault
 counts_unopened g g' same file = record {
-  counts = sym (nothing_given (g' - g) file (omega (arith, same)));
-  ends = λ no. absurd (on_off no);
+  exact = λ small. record {
+    counts = sym (nothing_given (g' - g) file (omega (arith, same)));
+    ends = λ no. absurd (on_off no);
+  };
+  read = record { most = omega (arith, same); whole = λ e. absurd cc; too_large = λ e. absurd cc };
+  there = λ e. absurd cc;
 }
 
-in_files : (g g' : ℕ) (found : Option (List ℕ)) → g' ≡ g
-    → IfSome found (λ file. (outcomes.ReadFault ≡ outcomes.ReadFault → g ≤ 2 ^ 63) → Counts (read_in file (g' - g) outcomes.ReadFault) no_stats outcomes.ReadFault)
-in_files g g' None same = tt
-in_files g g' (Some file) same = λ small. counts_unopened g g' same file
+unopened_found : (found : Option (List ℕ)) (g g' : ℕ) → g' ≡ g → CountsFound found g g' no_stats outcomes.ReadFault
+unopened_found None g g' same = record { ended = refl; unread = same; none = refl }
+unopened_found (Some file) g g' same = counts_unopened g g' same file
 
-pub unopened_known : (g g' : ℕ) (files : Option Files) (name : List ℕ) → g' ≡ g
-    → IfSome files (λ files. IfSome (map.get files name) (λ file. (outcomes.ReadFault ≡ outcomes.ReadFault → g ≤ 2 ^ 63) → Counts (read_in file (g' - g) outcomes.ReadFault) no_stats outcomes.ReadFault))
-unopened_known g g' None name same = tt
-unopened_known g g' (Some files) name same = in_files g g' (map.get files name) same
+pub counts_failed : (files : Option Files) (name : List ℕ) (g g' : ℕ) → g' ≡ g → IfSome files (λ files. CountsFound (map.get files name) g g' no_stats outcomes.ReadFault)
+counts_failed None name g g' same = tt
+counts_failed (Some files) name g g' same = unopened_found (map.get files name) g g' same
+
+-- ---- a file that is not there
+
+pub counts_missing : (files : Option Files) (name : List ℕ) (left : Option (List ℕ)) (g g' : ℕ) → g' ≡ g → (o : Opened) → o ≡ Missing → OpensAs files name (Ok o) left
+    → IfSome files (λ files. CountsFound (map.get files name) g g' no_stats outcomes.Missing)
+counts_missing files name left g g' same o missing opened =
+    if_missing files name left (λ found. CountsFound found g g' no_stats outcomes.Missing) o missing opened (record { ended = refl; unread = same; none = refl })
+
+-- ---- a file that was found
+
+there_counted : (found : Option (List ℕ)) (g g' : ℕ) (stats : Stats) (result : Outcome) → IsSome found → IfSome found (λ file. CountsFile file g g' stats result) → CountsFound found g g' stats result
+there_counted None g g' stats result there done = absurd (off_on there)
+there_counted (Some file) g g' stats result there done = done
+
+pub counts_found : (files : Option Files) (name : List ℕ) (left : Option (List ℕ)) (g mid g' : ℕ) (stats : Stats) (result : Outcome) → mid ≡ g → (o : Opened) → o ≡ Found → OpensAs files name (Ok o) left
+    → IfSome left (λ file. CountsFile file mid g' stats result) → IfSome files (λ files. CountsFound (map.get files name) g g' stats result)
+counts_found files name left g mid g' stats result same o found opened done =
+    if_found files name left (λ there. CountsFound there g g' stats result) o found opened
+    (λ some. there_counted left g g' stats result some (subst (λ (n : ℕ). IfSome left (λ file. CountsFile file n g' stats result)) same done))

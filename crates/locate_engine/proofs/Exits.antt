@@ -13,24 +13,20 @@ use Rattle.byte_feed.specs.Paths.{PathAt, ToCome, after_paths, no_paths}
 use Rattle.byte_feed.specs.Calls.{Moved, MovedKnown, EndsKnown}
 use Rattle.byte_feed.proofs.Draws.{raised_more}
 use Rattle.locate_engine.specs.Passing.{Rule, rule_of, tests_asked, line_of, passing, lines, due, OneDirectory}
-use Rattle.locate_engine.specs.Searched.{Stand, gone_through, outcome_of, is_read_fault, steps_over, ComesToEnd, StopsAs, Searches, SearchesTo, SearchesKnown, end_after, EndsWithin, EndsWithinKnown, is_by_end, seen_of}
+use Rattle.locate_engine.specs.Searched.{Stand, gone_through, outcome_of, is_read_fault, steps_over, ComesToEnd, StopsAs, Searches, SearchesTo, end_after, EndsWithin, is_by_end}
+use Rattle.locate_engine.specs.Streamed.{EndsWithinKnown, SearchesKnown, seen_of}
 use Rattle.locate_engine.specs.Asked.{Tells, Remembers, calls_due, is_shown, Through, Unanswered, Unwritten, Takes}
 use Rattle.locate_engine.specs.declared.asking.Block.{Block}
 use Rattle.locate_engine.specs.declared.asking.Step.{Step}
 use Rattle.locate_engine.specs.declared.query.Query.{Query}
 use Rattle.locate_engine.specs.declared.outcome.Outcome.{Outcome}
 use Rattle.locate_engine.specs.declared.outcome.Outcome.TheVariants as outcomes
+use Rattle.locate_engine.proofs.Endings.{off_on, on_off}
 use Rattle.locate_engine.proofs.Gone.{Went, Holds, went_none, went_yes, went_no, holds_none, holds_yes, holds_no, remembers_next, due_yes, steps_one}
 
 end_more : (k : ℕ) (given : List PathAt) (p : PathAt) → end_after k (given ++ p ∷ []) ≡ p.place
 end_more k [] p = refl
 end_more k (q ∷ given) p = end_more q.place given p
-
-pub off_on : false ≡ true → ⊥
-off_on e = absurd cc
-
-pub on_off : true ≡ false → ⊥
-on_off e = absurd cc
 
 most : (due calls due' call : ℕ) → due' ≡ due + calls → call ≤ calls → due + call ≤ due'
 most due calls due' call e le = omega (arith, e, le)
@@ -56,7 +52,7 @@ takes_by gated gated' tests tests' query block block' p old new step g t takes =
 abbrev pub SoFar : Rule → (List ℕ → ℕ) → (Window → ToCome) → FeedState → Option (List ℕ) → List PathAt → Block → Stand → Stand → ℕ → ℕ → Type 0
 SoFar rule bound t f left given block old new s s' = IfSome left (λ bytes. Went rule bound old new s s' given × Holds rule (t (window f bytes)).paths given block)
 
-pub so_far_none : (rule : Rule) (bound : List ℕ → ℕ) (t : Window → ToCome) (f : FeedState) (l : Option (List ℕ)) (block : Block) (old : Stand) (s : ℕ) → block.heads ≡ None → SoFar rule bound t f l [] block old old s s
+pub so_far_none : (rule : Rule) (bound : List ℕ → ℕ) (t : Window → ToCome) (f : FeedState) (l : Option (List ℕ)) (block : Block) (old : Stand) (s : ℕ) → block.number ≡ None → SoFar rule bound t f l [] block old old s s
 so_far_none rule bound t f None block old s none = tt
 so_far_none rule bound t f (Some a) block old s none = (went_none rule bound old s, holds_none rule (t (window f a)).paths block none)
 

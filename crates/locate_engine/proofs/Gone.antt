@@ -1,6 +1,6 @@
 -- Paths that were gone through, one after another: what was printed, counted and asked.
 use Rattle.std.proofs.Common.{append_assoc, ◌≡◌, ℕ, ◌+◌, ◌≤◌, Bool, true, false, not, cond, ◌&&◌, List, [], ◌∷◌, ◌++◌, length, map, filter, Option, Some, None, refl, sym, ap, subst, ◌∙◌, append-nil, length-append, arith}
-use Rattle.std.specs.Prelude.{nat_eq}
+use Rattle.std.specs.Prelude.{◌==◌, nat_eq, MatchBool}
 use Rattle.std.specs.List.{dedup, dedup_from}
 use Rattle.std.proofs.lemmas.Bool.{eqb-true}
 use Rattle.std.proofs.lemmas.List.{map-append}
@@ -10,9 +10,10 @@ use Rattle.std.proofs.lemmas.Grind.{flat_map-append}
 use Rattle.std.proofs.KnownBytes.{Appends-nil, Appends-trans}
 use Rattle.std.specs.Io.KnownBytes.{Appends}
 use Rattle.loc_outside.specs.Causes.{raised}
+use Rattle.loc_outside.specs.Gates.{Tests}
 use Rattle.byte_feed.specs.Paths.{PathAt}
 use Rattle.byte_feed.proofs.Draws.{raised_none, raised_more}
-use Rattle.locate_engine.specs.Passing.{Rule, is_wanted, is_visible, passes, line_of, wanted_of, passing, lines, blocks_asked, paths_asked, due, OneDirectory}
+use Rattle.locate_engine.specs.Passing.{Rule, block_of, dir_of, is_guarded, is_wanted, is_visible, passes, line_of, wanted_of, passing, lines, guarded_blocks, blocks_asked, paths_asked, due, OneDirectory}
 use Rattle.locate_engine.specs.Searched.{Stand, steps_over}
 use Rattle.locate_engine.specs.Asked.{is_last, Remembers, Knows, block_calls, path_calls, calls_due, is_shown, Through}
 use Rattle.locate_engine.specs.declared.asking.Block.{Block}
@@ -61,11 +62,13 @@ flipped : (b : Bool) → one_unless b ≡ cond (not b) 1 0
 flipped true = refl
 flipped false = refl
 
-blocks_more : (gated : Bool) (xs : List ℕ) (h : ℕ) (heads : Option ℕ) → (gated ≡ true → heads ≡ last_of xs)
-    → cond gated (length (dedup nat_eq (xs ++ h ∷ []))) 0 ≡ cond gated (length (dedup nat_eq xs)) 0 + cond (gated && not (is_last heads h)) 1 0
-blocks_more false xs h heads same = refl
-blocks_more true xs h heads same =
-    dedup_more xs h ∙ ap (λ (o : Option ℕ). length (dedup nat_eq xs) + cond (is_last o h) 0 1) (sym (same refl)) ∙ ap (λ (n : ℕ). length (dedup nat_eq xs) + n) (flipped (is_last heads h))
+blocks_more : (guarded : Bool) (xs : List ℕ) (h : ℕ) (number : Option ℕ) → number ≡ last_of xs
+    → length (dedup nat_eq (xs ++ cond guarded (h ∷ []) [])) ≡ length (dedup nat_eq xs) + cond (guarded && not (is_last number h)) 1 0
+blocks_more false xs h number same =
+    let all : length (dedup nat_eq (xs ++ [])) ≡ length (dedup nat_eq xs) = ap (λ (l : List ℕ). length (dedup nat_eq l)) (append-nil xs) in
+    omega (arith, all)
+blocks_more true xs h number same =
+    dedup_more xs h ∙ ap (λ (o : Option ℕ). length (dedup nat_eq xs) + cond (is_last o h) 0 1) (sym same) ∙ ap (λ (n : ℕ). length (dedup nat_eq xs) + n) (flipped (is_last number h))
 
 one_if : {X : Type 0} (b : Bool) (x : X) → length (cond b (x ∷ []) []) ≡ cond b 1 0
 one_if true x = refl
@@ -82,33 +85,41 @@ asked_more true test ws p = filter_more test ws p
 
 -- ---- one path more
 
-abbrev pub heads_of : List PathAt → List ℕ
-heads_of paths = map (λ (p : PathAt). p.heads) paths
-
 pub wanted_yes : (rule : Rule) (given : List PathAt) (p : PathAt) → rule.wanted p.text ≡ true → wanted_of rule (given ++ p ∷ []) ≡ wanted_of rule given ++ p ∷ []
 wanted_yes rule given p want = filter-append (is_wanted rule) given (p ∷ []) ∙ ap (λ (b : Bool). wanted_of rule given ++ cond b (p ∷ []) []) want
 
 pub wanted_no : (rule : Rule) (given : List PathAt) (p : PathAt) → rule.wanted p.text ≡ false → wanted_of rule (given ++ p ∷ []) ≡ wanted_of rule given
 wanted_no rule given p lack = filter-append (is_wanted rule) given (p ∷ []) ∙ ap (λ (b : Bool). wanted_of rule given ++ cond b (p ∷ []) []) lack ∙ append-nil (wanted_of rule given)
 
-heads_yes : (rule : Rule) (given : List PathAt) (p : PathAt) → rule.wanted p.text ≡ true → heads_of (wanted_of rule (given ++ p ∷ [])) ≡ heads_of (wanted_of rule given) ++ p.heads ∷ []
-heads_yes rule given p want = ap heads_of (wanted_yes rule given p want) ∙ map-append (λ (q : PathAt). q.heads) (wanted_of rule given) (p ∷ [])
+map_if : (guarded : Bool) (p : PathAt) → map block_of (cond guarded (p ∷ []) []) ≡ cond guarded (block_of p ∷ []) []
+map_if true p = refl
+map_if false p = refl
+
+blocks_yes : (rule : Rule) (given : List PathAt) (p : PathAt) → rule.wanted p.text ≡ true → guarded_blocks rule (given ++ p ∷ []) ≡ guarded_blocks rule given ++ cond (is_guarded rule.gated p) (block_of p ∷ []) []
+blocks_yes rule given p want =
+    ap (λ (ws : List PathAt). map block_of (filter (is_guarded rule.gated) ws)) (wanted_yes rule given p want)
+    ∙ ap (map block_of) (filter-append (is_guarded rule.gated) (wanted_of rule given) (p ∷ []))
+    ∙ map-append block_of (filter (is_guarded rule.gated) (wanted_of rule given)) (filter (is_guarded rule.gated) (p ∷ []))
+    ∙ ap (λ (l : List ℕ). guarded_blocks rule given ++ l) (map_if (is_guarded rule.gated p) p)
+
+blocks_no : (rule : Rule) (given : List PathAt) (p : PathAt) → rule.wanted p.text ≡ false → guarded_blocks rule (given ++ p ∷ []) ≡ guarded_blocks rule given
+blocks_no rule given p lack = ap (λ (ws : List PathAt). map block_of (filter (is_guarded rule.gated) ws)) (wanted_no rule given p lack)
 
 sums : (a b a' b' x y : ℕ) → a' ≡ a + x → b' ≡ b + y → a' + b' ≡ (a + b) + (x + y)
 sums a b a' b' x y e h = omega (arith, e, h)
 
-pub due_yes : (rule : Rule) (given : List PathAt) (p : PathAt) (block : Block) → rule.wanted p.text ≡ true → (rule.gated ≡ true → block.heads ≡ last_of (heads_of (wanted_of rule given)))
+pub due_yes : (rule : Rule) (given : List PathAt) (p : PathAt) (block : Block) → rule.wanted p.text ≡ true → block.number ≡ last_of (guarded_blocks rule given)
     → due rule (given ++ p ∷ []) ≡ due rule given + calls_due rule block p
 due_yes rule given p block want same =
     let blocks : blocks_asked rule (given ++ p ∷ []) ≡ blocks_asked rule given + block_calls rule.gated block p =
-    ap (λ (hs : List ℕ). cond rule.gated (length (dedup nat_eq hs)) 0) (heads_yes rule given p want) ∙ blocks_more rule.gated (heads_of (wanted_of rule given)) p.heads block.heads same in
+    ap (λ (hs : List ℕ). length (dedup nat_eq hs)) (blocks_yes rule given p want) ∙ blocks_more (is_guarded rule.gated p) (guarded_blocks rule given) (block_of p) block.number same in
     let paths : paths_asked rule (given ++ p ∷ []) ≡ paths_asked rule given + path_calls rule p =
     ap (λ (ws : List PathAt). cond rule.existing (length (filter (is_visible rule) ws)) 0) (wanted_yes rule given p want) ∙ asked_more rule.existing (is_visible rule) (wanted_of rule given) p in
     sums _ _ _ _ _ _ blocks paths
 
 pub due_no : (rule : Rule) (given : List PathAt) (p : PathAt) → rule.wanted p.text ≡ false → due rule (given ++ p ∷ []) ≡ due rule given
 due_no rule given p lack =
-    ap (λ (ws : List PathAt). cond rule.gated (length (dedup nat_eq (heads_of ws))) 0 + cond rule.existing (length (filter (is_visible rule) ws)) 0) (wanted_no rule given p lack)
+    ap (λ (ws : List PathAt). length (dedup nat_eq (map block_of (filter (is_guarded rule.gated) ws))) + cond rule.existing (length (filter (is_visible rule) ws)) 0) (wanted_no rule given p lack)
 
 pub passing_yes : (rule : Rule) (given : List PathAt) (p : PathAt) → rule.wanted p.text ≡ true → passing rule (given ++ p ∷ []) ≡ passing rule given ++ cond (is_shown rule p) (p ∷ []) []
 passing_yes rule given p want = filter-append (passes rule) given (p ∷ []) ∙ ap (λ (b : Bool). passing rule given ++ cond (b && is_shown rule p) (p ∷ []) []) want
@@ -141,22 +152,20 @@ pub record Went (rule : Rule) (bound : List ℕ → ℕ) (old new : Stand) (step
   pub asks : new.asks ≡ raised old.asks (due rule given)
   pub within : steps' ≤ steps + steps_over bound given
 
-nothing : (g e : Bool) → cond g 0 0 + cond e 0 0 ≡ 0
-nothing true true = refl
-nothing true false = refl
-nothing false true = refl
-nothing false false = refl
+nothing : (e : Bool) → 0 + cond e 0 0 ≡ 0
+nothing true = refl
+nothing false = refl
 
 pub went_none : (rule : Rule) (bound : List ℕ → ℕ) (old : Stand) (steps : ℕ) → Went rule bound old old steps steps []
 went_none rule bound old steps = record {
   prints = Appends-nil old.taken;
   counts = omega arith;
-  asks = sym (ap (raised old.asks) (nothing rule.gated rule.existing) ∙ raised_none old.asks);
+  asks = sym (ap (raised old.asks) (nothing rule.existing) ∙ raised_none old.asks);
   within = omega arith;
 }
 
 module _ (rule : Rule) (bound : List ℕ → ℕ) (old new : Stand) (s s' s'' : ℕ) (given : List PathAt) (p : PathAt) (before : Went rule bound old new s s' given) (cost : s'' ≤ s' + bound p.text) where
-  pub went_yes : (block block' : Block) (new' : Stand) → rule.wanted p.text ≡ true → (rule.gated ≡ true → block.heads ≡ last_of (heads_of (wanted_of rule given)))
+  pub went_yes : (block block' : Block) (new' : Stand) → rule.wanted p.text ≡ true → block.number ≡ last_of (guarded_blocks rule given)
       → Through rule block block' p new new' → Went rule bound old new' s s'' (given ++ p ∷ [])
   went_yes block block' new' want same through = record {
     prints = subst (Appends old.taken new'.taken) (sym (lines_yes rule given p want)) (Appends-trans old.taken new.taken new'.taken _ _ before.prints through.prints);
@@ -175,32 +184,52 @@ module _ (rule : Rule) (bound : List ℕ → ℕ) (old new : Stand) (s s' s'' : 
 
 -- ---- what is known of the block that the gate was asked for last
 
--- Its number is that of the last wanted path, and its answer is that of all paths of the block that come yet.
+-- Its number is that of the last wanted path for which the gate had to be asked, and its answer is that of all paths of the
+-- block that come yet.
 pub record Holds (rule : Rule) (paths given : List PathAt) (block : Block) : Type 0 where
-  pub last : rule.gated ≡ true → block.heads ≡ last_of (heads_of (wanted_of rule given))
+  pub last : block.number ≡ last_of (guarded_blocks rule given)
   pub ahead : (q : PathAt) (between behind : List PathAt) → paths ≡ given ++ (between ++ q ∷ behind) → Remembers rule.gated rule.tests block q
 
-none_last : (heads : Option ℕ) (h : ℕ) → heads ≡ None → is_last heads h ≡ true → ⊥
+none_last : (number : Option ℕ) (h : ℕ) → number ≡ None → is_last number h ≡ true → ⊥
 none_last None h e is = absurd cc
 none_last (Some n) h e is = absurd cc
 
-pub holds_none : (rule : Rule) (paths : List PathAt) (block : Block) → block.heads ≡ None → Holds rule paths [] block
-holds_none rule paths block none = record { last = λ _. none; ahead = λ q between behind e gated is. absurd (none_last block.heads q.heads none is) }
+pub holds_none : (rule : Rule) (paths : List PathAt) (block : Block) → block.number ≡ None → Holds rule paths [] block
+holds_none rule paths block none = record { last = none; ahead = λ q between behind e guarded is. absurd (none_last block.number (block_of q) none is) }
+
+last_if : (guarded : Bool) (xs : List ℕ) (h : ℕ) (shows : Bool) (block block' : Block) → block.number ≡ last_of xs → MatchBool guarded ((block'.number ≡ Some h) × (block'.shown ≡ shows)) (block' ≡ block)
+    → block'.number ≡ last_of (xs ++ cond guarded (h ∷ []) [])
+last_if true xs h shows block block' before knows = knows.0 ∙ sym (last_more xs h)
+last_if false xs h shows block block' before knows = ap (λ (b : Block). b.number) knows ∙ before ∙ ap last_of (sym (append-nil xs))
+
+and_left : (a b : Bool) → (a && b) ≡ true → a ≡ true
+and_left true b e = refl
+and_left false b e = absurd cc
+
+-- what is kept of the block of a later path
+kept_of : (guarded : Bool) (tests : Tests) (block block' : Block) (p q : PathAt) → MatchBool guarded ((block'.number ≡ Some (block_of p)) × (block'.shown ≡ tests.shows (dir_of p))) (block' ≡ block)
+    → (is_last block.number (block_of q) ≡ true → block.shown ≡ tests.shows (dir_of q)) → (block_of p ≡ block_of q → dir_of p ≡ dir_of q)
+    → is_last block'.number (block_of q) ≡ true → block'.shown ≡ tests.shows (dir_of q)
+kept_of true tests block block' p q knows before one is =
+    let same : block_of q ≡ block_of p = eqb-true (block_of q) (block_of p) (ap (λ (o : Option ℕ). is_last o (block_of q)) (sym knows.0) ∙ is) in
+    knows.1 ∙ ap tests.shows (one (sym same))
+kept_of false tests block block' p q knows before one is = subst (λ (b : Block). is_last b.number (block_of q) ≡ true → b.shown ≡ tests.shows (dir_of q)) (sym knows) before is
 
 module _ (rule : Rule) (paths given : List PathAt) (block : Block) (p : PathAt) (before : Holds rule paths given block) where
   pub remembers_next : (later : List PathAt) → paths ≡ (given ++ p ∷ []) ++ later → Remembers rule.gated rule.tests block p
   remembers_next later all = before.ahead p [] later (all ∙ append_assoc given (p ∷ []) later)
 
-  pub holds_yes : (block' : Block) → rule.wanted p.text ≡ true → (rule.gated ≡ true → OneDirectory paths) → Knows rule.gated rule.tests block' p → Holds rule paths (given ++ p ∷ []) block'
+  pub holds_yes : (block' : Block) → rule.wanted p.text ≡ true → (rule.gated ≡ true → OneDirectory paths) → Knows rule.gated rule.tests block block' p → Holds rule paths (given ++ p ∷ []) block'
   holds_yes block' want one knows = record {
-    last = λ gated. (knows gated).0 ∙ sym (ap last_of (heads_yes rule given p want) ∙ last_more (heads_of (wanted_of rule given)) p.heads);
-    ahead = λ q between behind all gated is.
-        let same : q.heads ≡ p.heads = eqb-true q.heads p.heads (ap (λ (o : Option ℕ). is_last o q.heads) (sym (knows gated).0) ∙ is) in
-        (knows gated).1 ∙ ap rule.tests.shows (one gated p q given between behind (all ∙ append_assoc given (p ∷ []) (between ++ q ∷ behind)) (sym same));
+    last = last_if (is_guarded rule.gated p) (guarded_blocks rule given) (block_of p) (rule.tests.shows (dir_of p)) block block' before.last knows ∙ sym (ap last_of (blocks_yes rule given p want));
+    ahead = λ q between behind all guarded.
+        let there : paths ≡ given ++ (p ∷ (between ++ q ∷ behind)) = all ∙ append_assoc given (p ∷ []) (between ++ q ∷ behind) in
+        kept_of (is_guarded rule.gated p) rule.tests block block' p q knows (before.ahead q (p ∷ between) behind there guarded)
+        (one (and_left rule.gated (not (q.dir_len == 0)) guarded) p q given between behind there);
   }
 
   pub holds_no : rule.wanted p.text ≡ false → Holds rule paths (given ++ p ∷ []) block
   holds_no lack = record {
-    last = λ gated. before.last gated ∙ ap (λ (ws : List PathAt). last_of (heads_of ws)) (sym (wanted_no rule given p lack));
+    last = before.last ∙ sym (ap last_of (blocks_no rule given p lack));
     ahead = λ q between behind all. before.ahead q (p ∷ between) behind (all ∙ append_assoc given (p ∷ []) (between ++ q ∷ behind));
   }

@@ -1,8 +1,12 @@
 pub mod Counted
+pub mod Drawn
+pub mod Endings
 pub mod Exits
 pub mod Gone
+pub mod Named
 pub mod Occurs
 pub mod Opened
 pub mod LineParts
 pub mod Patterns
+pub mod Told
 pub mod Whole

@@ -5,6 +5,7 @@ use Rattle.path_order.specs.Path.{base_of}
 use Rattle.glob_match.specs.Item.{Item, Star, OneOf}
 use Rattle.glob_match.specs.Pattern.{Wanted, Plain, Listed, InGlob}
 use Rattle.locate_engine.specs.declared.query.Query.{Query}
+use Rattle.locate_engine.specs.Sought.{Sought}
 use Rattle.locate_engine.specs.Wanted.{occurs}
 
 -- the text that the patterns are asked of: what follows the last slash of the path, or the whole path
@@ -54,3 +55,9 @@ steps_of text (Listed items) = 2 * (length items + 1) * (length text + 1)
 -- the most steps that all patterns of a query take on a path
 abbrev pub steps_on : Query → List ℕ → ℕ
 steps_on q path = sum_by (steps_of (judged q.base path)) q.globs
+
+-- ---- what is sought
+
+-- what a query's patterns want, and the steps that this takes
+abbrev pub sought_of : Query → Sought
+sought_of q = record { wanted = wanted q; bound = steps_on q }

@@ -1,7 +1,10 @@
-pub mod Asked
 pub mod Files
-pub mod Globs
-pub mod Passing
+pub mod Sight
 pub mod Searched
-pub mod Statistics
+pub mod Passing
+pub mod Sought
+pub mod Globs
 pub mod Wanted
+pub mod Statistics
+pub mod Asked
+pub mod Streamed

@@ -1,5 +1,5 @@
 -- Which paths of a database pass, what is printed of them, and how often a gate is asked.
-use Rattle.std.specs.Prelude.{◌≡◌, true, ℕ, ◌+◌, ◌-◌, Bool, not, ◌&&◌, ◌||◌, nat_eq, List, [], ◌∷◌, ◌++◌, length, take, map, filter, Option, Some, None, if◌then◌else◌}
+use Rattle.std.specs.Prelude.{◌≡◌, true, ℕ, ◌+◌, ◌-◌, Bool, not, ◌&&◌, ◌||◌, ◌==◌, nat_eq, List, [], ◌∷◌, ◌++◌, length, take, map, filter, Option, Some, None, if◌then◌else◌}
 use Rattle.std.specs.List.{flat_map, dedup}
 use Rattle.loc_outside.specs.Gates.{Tests}
 use Rattle.byte_feed.specs.Paths.{PathAt}
@@ -38,13 +38,22 @@ tests_asked asks tests = if asks then tests else Some (record { shows = λ dir. 
 abbrev pub is_wanted : Rule → PathAt → Bool
 is_wanted rule p = rule.wanted p.text
 
--- the directory in whose block the path stands
+-- the directory in which the path stands
 abbrev pub dir_of : PathAt → List ℕ
 dir_of p = take p.dir_len p.text
 
+-- The number of the block in which the path stands, by which a stream tells that the directory is the one before: the
+-- number of directory heads up to here.
+abbrev pub block_of : PathAt → ℕ
+block_of p = p.heads
+
+-- The path may be shown only where its directory may be: the database asks for that, and has a directory for it.
+abbrev pub is_guarded : Bool → PathAt → Bool
+is_guarded gated p = gated && not (p.dir_len == 0)
+
 -- the path may be shown
 abbrev pub is_visible : Rule → PathAt → Bool
-is_visible rule p = not rule.gated || rule.tests.shows (dir_of p)
+is_visible rule p = not (is_guarded rule.gated p) || rule.tests.shows (dir_of p)
 
 -- it is not asked whether the path exists, or it does
 abbrev pub is_there : Rule → PathAt → Bool
@@ -76,10 +85,13 @@ abbrev pub up_to : Option ℕ → ℕ → List PathAt → List PathAt
 up_to None matched paths = paths
 up_to (Some limit) matched paths = take (limit - matched) paths
 
--- The gate is asked once for the directory of each block in which a wanted path stands, where paths are shown only to
--- those who may list it,
+-- the blocks of the wanted paths that may be shown only where their directory may be
+abbrev pub guarded_blocks : Rule → List PathAt → List ℕ
+guarded_blocks rule paths = map block_of (filter (is_guarded rule.gated) (wanted_of rule paths))
+
+-- The gate is asked once for the directory of each of these blocks,
 abbrev pub blocks_asked : Rule → List PathAt → ℕ
-blocks_asked rule paths = if rule.gated then length (dedup nat_eq (map (λ (p : PathAt). p.heads) (wanted_of rule paths))) else 0
+blocks_asked rule paths = length (dedup nat_eq (guarded_blocks rule paths))
 
 -- and once for each wanted path that may be shown, where it is asked whether paths exist.
 abbrev pub paths_asked : Rule → List PathAt → ℕ
@@ -90,4 +102,4 @@ due rule paths = blocks_asked rule paths + paths_asked rule paths
 
 -- a path and a later one of the same block have the same directory
 abbrev pub OneDirectory : List PathAt → Type 0
-OneDirectory paths = (p q : PathAt) (before between behind : List PathAt) → paths ≡ before ++ p ∷ (between ++ q ∷ behind) → p.heads ≡ q.heads → dir_of p ≡ dir_of q
+OneDirectory paths = (p q : PathAt) (before between behind : List PathAt) → paths ≡ before ++ p ∷ (between ++ q ∷ behind) → block_of p ≡ block_of q → dir_of p ≡ dir_of q

@@ -1,14 +1,13 @@
 -- What a search prints, counts and asks over the paths of a database.
-use Rattle.std.specs.Prelude.{◌≡◌, ℕ, ◌+◌, ◌≤◌, ◌<◌, Bool, List, [], ◌∷◌, ◌++◌, length, take, Option, Some, None, Ok, Err, true, false, nat_eq, if◌then◌else◌, ⊤, IfSome, IsTrue}
+use Rattle.std.specs.Prelude.{◌≡◌, ℕ, ◌+◌, ◌≤◌, ◌<◌, Bool, List, [], ◌∷◌, ◌++◌, length, take, Option, Some, None, Ok, Err, true, false, nat_eq, if◌then◌else◌, IfSome, IsTrue}
 use Rattle.std.specs.List.{sum_by}
 use Rattle.std.specs.Io.KnownBytes.{Appends}
 use Rattle.loc_outside.specs.Causes.{raised}
 use Rattle.byte_feed.specs.declared.damage.DbFault.TheVariants as faults
-use Rattle.byte_feed.specs.Front.{Window}
-use Rattle.byte_feed.specs.Feed.{FeedState, window, so_far}
 use Rattle.byte_feed.specs.Endings.{Ending}
 use Rattle.byte_feed.specs.Paths.{PathAt, ToCome}
-use Rattle.locate_engine.specs.Passing.{Rule, OneDirectory, passes, line_of, passing, lines, up_to, due}
+use Rattle.any_db.specs.Formats.{contents, contents_of_part}
+use Rattle.locate_engine.specs.Passing.{Rule, passes, line_of, passing, lines, up_to, due}
 use Rattle.locate_engine.specs.declared.outcome.Outcome.{Outcome}
 use Rattle.locate_engine.specs.declared.outcome.Outcome.TheVariants as outcomes
 
@@ -49,6 +48,12 @@ at_limit (Some limit) matched = nat_eq matched limit
 -- the most steps that it takes to tell of each path whether it is wanted
 abbrev pub steps_over : (List ℕ → ℕ) → List PathAt → ℕ
 steps_over bound paths = sum_by (λ (p : PathAt). bound p.text) paths
+
+-- ---- what is seen of a file
+
+-- the paths of the file, or, where the reader failed, those that are whole in the bytes given
+abbrev pub seen_in : List ℕ → ℕ → Outcome → ToCome
+seen_in file given result = if is_read_fault result then contents_of_part given file else contents file
 
 -- ---- what a search did
 
@@ -147,23 +152,3 @@ pub record SearchesWhole (rule : Rule) (seen : ToCome) (old new : Stand) (result
 pub record EndsWithin (bound : List ℕ → ℕ) (seen : ToCome) (steps steps' : ℕ) (result : Outcome) : Type 0 where
   pub ends : IsTrue (is_by_end result) → result ≡ outcome_of seen.ending
   pub within : steps' ≤ steps + steps_over bound seen.paths
-
--- ---- of a file that is read
-
--- where paths are shown only to those who may list their directories, those of one block have one directory
-abbrev pub OneDirectoryLeft : Bool → (Window → ToCome) → FeedState → Option (List ℕ) → Type 0
-OneDirectoryLeft gated before f left = gated ≡ true → IfSome left (λ bytes. OneDirectory (before (window f bytes)).paths)
-
--- the paths of the whole file, or, where the source failed with n bytes left, of what had come of it
-abbrev pub seen_of : (Window → ToCome) → FeedState → List ℕ → ℕ → Outcome → ToCome
-seen_of before f left n result = before (if is_read_fault result then so_far f left n else window f left)
-
--- What a search did, where the source tells its bytes. A source that fails had not ended for the stream.
-abbrev pub SearchesKnown : Rule → (List ℕ → ℕ) → (Window → ToCome) → FeedState → Option (List ℕ) → Option (List ℕ) → Stand → Stand → ℕ → ℕ → Outcome → ℕ → Type 0
-SearchesKnown rule bound before f None left' old new steps steps' result far = ⊤
-SearchesKnown rule bound before f (Some l) None old new steps steps' result far = ⊥
-SearchesKnown rule bound before f (Some l) (Some l') old new steps steps' result far =
-    (is_read_fault result ≡ true → f.ended ≡ false) × SearchesTo rule bound (seen_of before f l (length l') result) old new steps steps' result far
-
-abbrev pub EndsWithinKnown : (List ℕ → ℕ) → (Window → ToCome) → FeedState → Option (List ℕ) → ℕ → ℕ → Outcome → Type 0
-EndsWithinKnown bound before f left steps steps' result = IfSome left (λ bytes. EndsWithin bound (before (window f bytes)) steps steps' result)

@@ -1,14 +1,12 @@
 -- What a database holds, counted.
-use Rattle.std.specs.Prelude.{◌≡◌, ℕ, ◌*◌, ◌^◌, ◌≤◌, ◌==◌, Bool, true, false, List, [], length, take, drop, Option, Some, None, sum_by, if◌then◌else◌, ⊤}
+use Rattle.std.specs.Prelude.{◌≡◌, ℕ, ◌-◌, ◌*◌, ◌^◌, ◌≤◌, ◌==◌, Bool, true, false, List, [], length, take, drop, Option, Some, None, IsTrue, sum_by, if◌then◌else◌, ⊤}
 use Rattle.path_order.specs.Path.{joined}
-use Rattle.byte_feed.specs.Front.{Window}
-use Rattle.byte_feed.specs.Feed.{FeedState, window, so_far}
 use Rattle.byte_feed.specs.Paths.{PathAt, ToCome}
-use Rattle.any_db.specs.Formats.{contents, contents_of_part}
 use Rattle.locate_engine.specs.declared.outcome.Outcome.{Outcome}
 use Rattle.locate_engine.specs.declared.outcome.Outcome.TheVariants as outcomes
 use Rattle.locate_engine.specs.declared.counting.Stats.{Stats}
-use Rattle.locate_engine.specs.Searched.{outcome_of, is_read_fault}
+use Rattle.locate_engine.specs.Files.{ReadsWithin}
+use Rattle.locate_engine.specs.Searched.{outcome_of, is_missing_or_read_fault, is_read_fault, seen_in}
 
 -- The name of a path in its database: where there are directory heads an entry's name, which follows its directory's
 -- path and a slash, or the directory `/` alone, which ends in one; where there are none the whole path.
@@ -60,19 +58,22 @@ abbrev pub DamagedAt : ℕ → Outcome → Type 0
 DamagedAt place (outcomes.Damage damage) = damage.place ≡ place
 DamagedAt place outcome = ⊤
 
--- ---- what is read
+-- ---- by its name
 
--- all that a file gives, or, where the reader failed, what is whole in the bytes that it gave
-abbrev pub read_in : List ℕ → ℕ → Outcome → ToCome
-read_in file given result = if is_read_fault result then contents_of_part given file else contents file
+-- What was counted of a file: of all that it gives, or, where the reader failed, of what is whole in the bytes given. The
+-- bytes given are then those by which their count rose, which stands still only near 2^64.
+pub record CountsFile (file : List ℕ) (given given' : ℕ) (stats : Stats) (outcome : Outcome) : Type 0 where
+  pub exact : (outcome ≡ outcomes.ReadFault → given ≤ 2 ^ 63) → Counts (seen_in file (given' - given) outcome) stats outcome
+  pub read : ReadsWithin file given given' outcome
+  pub there : outcome ≡ outcomes.Missing → ⊥
 
--- the same by a stream that goes on from here, where the source failed with n bytes left
-abbrev pub read_on : (Window → ToCome) → FeedState → List ℕ → ℕ → Outcome → ToCome
-read_on before f left n result = before (if is_read_fault result then so_far f left n else window f left)
+-- There is no file of the name: statistics say so, unless the reader failed, and nothing was read or counted.
+pub record CountsNone (given given' : ℕ) (stats : Stats) (outcome : Outcome) : Type 0 where
+  pub ended : IsTrue (is_missing_or_read_fault outcome)
+  pub unread : given' ≡ given
+  pub none : stats ≡ no_stats
 
--- what is counted from here on, where the source tells its bytes
-abbrev pub CountsKnown : (Window → ToCome) → FeedState → Option (List ℕ) → Option (List ℕ) → Stats → Outcome → Type 0
-CountsKnown before f None left' stats result = ⊤
-CountsKnown before f (Some l) None stats result = ⊥
-CountsKnown before f (Some l) (Some l') stats result =
-    (is_read_fault result ≡ true → f.ended ≡ false) × Counts (read_on before f l (length l') result) stats result
+-- what was counted of the file of a name, or without one
+abbrev pub CountsFound : Option (List ℕ) → ℕ → ℕ → Stats → Outcome → Type 0
+CountsFound None given given' stats outcome = CountsNone given given' stats outcome
+CountsFound (Some file) given given' stats outcome = CountsFile file given given' stats outcome

@@ -4,7 +4,7 @@ ghost use Rattle.std.specs.Io.KnownBytes.{Appends};
 ghost use Rattle.loc_outside.specs.Causes.{HasCause, Rose};
 ghost use Rattle.loc_outside.specs.Gates.{Tests};
 ghost use Rattle.loc_outside.specs.Outside.{AppendsShort};
-ghost use Rattle.locate_engine.specs.Passing.{rule_of, line_by};
+ghost use Rattle.locate_engine.specs.Passing.{rule_of, is_guarded, line_by};
 ghost use Rattle.locate_engine.specs.Searched.{stand};
 ghost use Rattle.locate_engine.specs.Asked.{is_last, Tells, Remembers, AsksBlock, Asks, Takes};
 
@@ -13,10 +13,11 @@ use crate::query::Query;
 use byte_feed::PathStream;
 use loc_outside::{Failed, Gate, Sink, put_all};
 
-/// The block for whose directory the gate was asked last, by its number of heads, and whether it is shown.
+/// The block for whose directory the gate was asked last, by the number that the stream gives it, and whether that
+/// directory is shown.
 #[derive(Clone, Copy)]
 pub(crate) struct Block {
-    pub heads: Option<u64>,
+    pub number: Option<u64>,
     pub shown: bool,
 }
 
@@ -33,13 +34,21 @@ pub(crate) enum Step {
     WriteFault,
 }
 
-fn is_last(block: &Block, heads: u64) -> bool
-    ensures { result ≡ is_last block.now.heads heads }
+fn is_last(block: &Block, number: u64) -> bool
+    ensures { result ≡ is_last block.now.number number }
 {
-    match block.heads {
-        Some(last) => heads == last,
+    match block.number {
+        Some(last) => number == last,
         None => false,
     }
+}
+
+/// Whether the path may be shown only where its directory may be.
+#[inline(always)]
+fn is_guarded<P: PathStream>(stream: &P) -> bool
+    ensures { result ≡ is_guarded (P.is_gated stream.now) (P.found stream.now) }
+{
+    stream.asks_gate() && stream.dir_len() != 0
 }
 
 /// Whether the directory of the path's block may be shown. The gate is asked unless it was asked for this block last.
@@ -56,16 +65,16 @@ fn shows_block<P: PathStream, G: Gate>(
     ensures asks_rise { G.asks gate.old ≤ G.asks gate.new }
     ensures kept { G.kept gate.old gate.new }
 {
-    if !stream.asks_gate() {
+    if !is_guarded(stream) {
         return Ok(true);
     }
-    let heads = stream.heads();
-    if is_last(block, heads) {
+    let number = stream.heads();
+    if is_last(block, number) {
         return Ok(block.shown);
     }
     let shown = gate.shows(&stream.path()[..stream.dir_len()])?;
     *block = Block {
-        heads: Some(heads),
+        number: Some(number),
         shown,
     };
     Ok(shown)

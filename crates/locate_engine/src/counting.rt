@@ -1,12 +1,13 @@
 //! The statistics of a database.
-ghost use Rattle.std.specs.Prelude.{◌≡◌, ◌+◌, ◌-◌, ◌*◌, ◌≤◌, ◌^◌, [], length, take, true, None, Err, IfSome, IsTrue};
+ghost use Rattle.std.specs.Prelude.{◌≡◌, ◌+◌, ◌≤◌, ◌^◌, [], length, take, true, Err, IfSome, IsTrue};
 ghost use Rattle.std.specs.FinMap as map;
 ghost use Rattle.loc_outside.specs.Causes.{Rose, raised};
 ghost use Rattle.path_order.specs.Path.{joined};
 ghost use Rattle.byte_feed.specs.Feed.{Draws, reach};
-ghost use Rattle.locate_engine.specs.Files.{ReadsOnce};
-ghost use Rattle.locate_engine.specs.Searched.{outcome_of, is_missing_or_read_fault};
-ghost use Rattle.locate_engine.specs.Statistics.{name_len, counted, no_stats, stats_after, Counts, CountsKnown, DamagedAt, Fits, ends_reading, read_in};
+ghost use Rattle.locate_engine.specs.Searched.{outcome_of};
+ghost use Rattle.locate_engine.specs.Sight.{Reads};
+ghost use Rattle.locate_engine.specs.Statistics.{name_len, counted, no_stats, stats_after, CountsFile, CountsFound, DamagedAt, Fits, ends_reading};
+ghost use Rattle.locate_engine.specs.Streamed.{CountsKnown};
 
 use crate::outcome::{Outcome, outcome_at};
 use any_db::AnyReader;
@@ -44,25 +45,15 @@ impl Stats {
 /// database is counted up to the damage, and one whose reading fails as far as its bytes were given. It takes no
 /// memory: it holds one path and one buffer of 4,096 bytes.
 pub fn statistics<R: Reader>(name: &str, reader: &mut R) -> (Stats, Outcome)
-    ensures exact { IfSome (R.files reader.old) (λ files. IfSome (map.get files name.now) (λ file. (result.1 ≡ Outcome.ReadFault → R.given reader.old ≤ 2 ^ 63) →
-        Counts (read_in file (R.given reader.new - R.given reader.old) result.1) result.0 result.1)) }
-    ensures missing { IfSome (R.files reader.old) (λ files. result.1 ≡ Outcome.Missing → map.get files name.now ≡ None) }
-    ensures absent { IfSome (R.files reader.old) (λ files. map.get files name.now ≡ None → IsTrue (is_missing_or_read_fault result.1)) }
-    ensures none_absent { IfSome (R.files reader.old) (λ files. map.get files name.now ≡ None → result.0 ≡ no_stats) }
-    ensures none_missing { result.1 ≡ Outcome.Missing → result.0 ≡ no_stats }
-    ensures none_not_a_database { result.1 ≡ Outcome.NotADatabase → result.0 ≡ no_stats }
-    ensures unread { result.1 ≡ Outcome.Missing → R.given reader.new ≡ R.given reader.old }
-    ensures damaged { DamagedAt result.0.stored result.1 }
+    ensures counts { IfSome (R.files reader.old) (λ files. CountsFound (map.get files name.now) (R.given reader.old) (R.given reader.new) result.0 result.1) }
+    ensures missing { result.1 ≡ Outcome.Missing → (result.0 ≡ no_stats) × (R.given reader.new ≡ R.given reader.old) }
+    ensures no_database { result.1 ≡ Outcome.NotADatabase → result.0 ≡ no_stats }
     ensures too_large { result.1 ≡ Outcome.TooLarge → R.given reader.new ≡ raised (R.given reader.old) (2 ^ 40) }
-    ensures read_once { IfSome (R.files reader.old) (λ files. IfSome (map.get files name.now) (λ file. ReadsOnce file (R.given reader.old) (R.given reader.new) result.1)) }
-    ensures read_none { IfSome (R.files reader.old) (λ files. map.get files name.now ≡ None → R.given reader.new ≡ R.given reader.old) }
-    ensures reading { IsTrue (ends_reading result.1) }
+    ensures damaged { DamagedAt result.0.stored result.1 }
     ensures fits { Fits result.0 }
-    ensures read_fault { result.1 ≡ Outcome.ReadFault → Rose (R.faults reader.old) (R.faults reader.new) }
-    ensures later { R.faults reader.old ≤ R.faults reader.new }
+    ensures reading { IsTrue (ends_reading result.1) }
+    ensures reads { Reads (R.given reader.old) (R.given reader.new) (R.faults reader.old) (R.faults reader.new) result.1 }
     ensures files { R.files reader.new ≡ R.files reader.old }
-    ensures given_rises { R.given reader.old ≤ R.given reader.new }
-    ensures given_within { R.given reader.new ≤ R.given reader.old + 2 ^ 40 }
 {
     match reader.open_file(name) {
         Ok(Opened::Found) => statistics_opened(reader),
@@ -73,19 +64,14 @@ pub fn statistics<R: Reader>(name: &str, reader: &mut R) -> (Stats, Outcome)
 
 /// The statistics of the file that was just opened.
 fn statistics_opened<R: Reader>(reader: &mut R) -> (Stats, Outcome)
-    ensures exact { IfSome (R.left reader.old) (λ file. (result.1 ≡ Outcome.ReadFault → R.given reader.old ≤ 2 ^ 63) →
-        Counts (read_in file (R.given reader.new - R.given reader.old) result.1) result.0 result.1) }
-    ensures none_not_a_database { result.1 ≡ Outcome.NotADatabase → result.0 ≡ no_stats }
+    ensures counts { IfSome (R.left reader.old) (λ file. CountsFile file (R.given reader.old) (R.given reader.new) result.0 result.1) }
     ensures there { result.1 ≡ Outcome.Missing → ⊥ }
-    ensures damaged { DamagedAt result.0.stored result.1 }
+    ensures no_database { result.1 ≡ Outcome.NotADatabase → result.0 ≡ no_stats }
     ensures too_large { result.1 ≡ Outcome.TooLarge → R.given reader.new ≡ raised (R.given reader.old) (2 ^ 40) }
-    ensures read_once { IfSome (R.left reader.old) (λ file. ReadsOnce file (R.given reader.old) (R.given reader.new) result.1) }
-    ensures reading { IsTrue (ends_reading result.1) }
+    ensures damaged { DamagedAt result.0.stored result.1 }
     ensures fits { Fits result.0 }
-    ensures read_fault { result.1 ≡ Outcome.ReadFault → Rose (R.faults reader.old) (R.faults reader.new) }
-    ensures later { R.faults reader.old ≤ R.faults reader.new }
-    ensures given_rises { R.given reader.old ≤ R.given reader.new }
-    ensures given_within { R.given reader.new ≤ R.given reader.old + 2 ^ 40 }
+    ensures reading { IsTrue (ends_reading result.1) }
+    ensures reads { Reads (R.given reader.old) (R.given reader.new) (R.faults reader.old) (R.faults reader.new) result.1 }
     ensures kept { R.kept reader.old reader.new }
 {
     let mut stream = AnyReader::new();

@@ -1,11 +1,9 @@
 //! The search of one database by its name.
-ghost use Rattle.std.specs.Prelude.{◌≡◌, ◌≤◌, ◌<◌, ◌+◌, ◌^◌, ◌||◌, Some, None, IfSome, IsTrue};
+ghost use Rattle.std.specs.Prelude.{◌≡◌, ◌≤◌, ◌<◌, ◌^◌, None, IfSome, IsTrue};
 ghost use Rattle.std.specs.FinMap as map;
-ghost use Rattle.loc_outside.specs.Causes.{Rose};
-ghost use Rattle.any_db.specs.Formats.{contents};
-ghost use Rattle.locate_engine.specs.Searched.{EndsWithin, is_missing_or_read_fault, stand};
-ghost use Rattle.locate_engine.specs.Globs.{steps_on, wanted};
-ghost use Rattle.locate_engine.specs.Files.{SearchesFile, SearchesAll, ReadsOnce};
+ghost use Rattle.locate_engine.specs.Files.{SearchesFile, SearchesNamed};
+ghost use Rattle.locate_engine.specs.Globs.{sought_of};
+ghost use Rattle.locate_engine.specs.Sight.{MeetsLimit, Moves};
 
 use crate::glob_matcher::GlobMatcher;
 use crate::matcher::Matcher;
@@ -31,36 +29,35 @@ pub fn search<R: Reader, G: Gate, P: Sink, L: Ledger>(
 ) -> Outcome
     requires room { tally.old.matched ≤ 2 ^ 62 }
     requires below { IfSome query.now.limit (λ limit. tally.old.matched < limit) }
-    ensures missing { IfSome (R.files reader.old) (λ files. result ≡ Outcome.Missing → map.get files name.now ≡ None) }
-    ensures absent { IfSome (R.files reader.old) (λ files. map.get files name.now ≡ None → IsTrue (is_missing_or_read_fault result)) }
-    ensures nothing { IfSome (R.files reader.old) (λ files. map.get files name.now ≡ None → (out.new ≡ out.old) × (gate.new ≡ gate.old) × (tally.new ≡ tally.old) × (steps.new ≡ steps.old)) }
-    ensures read_none { IfSome (R.files reader.old) (λ files. map.get files name.now ≡ None → R.given reader.new ≡ R.given reader.old) }
-    ensures unopened { result ≡ Outcome.Missing → (out.new ≡ out.old) × (gate.new ≡ gate.old) × (tally.new ≡ tally.old) × (steps.new ≡ steps.old) × (R.given reader.new ≡ R.given reader.old) }
-    ensures searched { IfSome (R.files reader.old) (λ files. IfSome (map.get files name.now) (λ file.
-        SearchesFile (wanted query.now) (steps_on query.now) query.now file (G.tests gate.old) (R.given reader.old) (R.given reader.new)
-        (stand (P.taken out.old) tally.old.matched (G.asks gate.old)) (stand (P.taken out.new) tally.new.matched (G.asks gate.new)) steps.old steps.new result)) }
-    ensures exact { IfSome (R.files reader.old) (λ files. IfSome (map.get files name.now) (λ file.
-        (Rose (R.faults reader.old) (R.faults reader.new) → ⊥) → (Rose (G.faults gate.old) (G.faults gate.new) → ⊥) → (Rose (P.faults out.old) (P.faults out.new) → ⊥) →
-        SearchesAll (wanted query.now) query.now file (G.tests gate.old) (stand (P.taken out.old) tally.old.matched (G.asks gate.old)) (stand (P.taken out.new) tally.new.matched (G.asks gate.new)) result)) }
-    ensures read_once { IfSome (R.files reader.old) (λ files. IfSome (map.get files name.now) (λ file. ReadsOnce file (R.given reader.old) (R.given reader.new) result)) }
-    ensures ended { IfSome (R.files reader.old) (λ files. IfSome (map.get files name.now) (λ file. EndsWithin (steps_on query.now) (contents file) steps.old steps.new result)) }
-    ensures limit { result ≡ Outcome.LimitReached → query.now.limit ≡ Some tally.new.matched }
-    ensures under { (result ≡ Outcome.LimitReached → ⊥) → IfSome query.now.limit (λ limit. tally.new.matched < limit) }
-    ensures rises { tally.old.matched ≤ tally.new.matched }
-    ensures within { tally.new.matched ≤ tally.old.matched + 2 ^ 40 }
+    ensures searches { SearchesNamed (sought_of query.now) query.now name.now
+        (record {
+          files = R.files reader.old;
+          given = R.given reader.old;
+          reads_failed = R.faults reader.old;
+          tests = G.tests gate.old;
+          asks = G.asks gate.old;
+          gate_failed = G.faults gate.old;
+          taken = P.taken out.old;
+          writes_failed = P.faults out.old;
+          matched = tally.old.matched;
+          steps = steps.old;
+        })
+        result
+        (record {
+          files = R.files reader.new;
+          given = R.given reader.new;
+          reads_failed = R.faults reader.new;
+          tests = G.tests gate.new;
+          asks = G.asks gate.new;
+          gate_failed = G.faults gate.new;
+          taken = P.taken out.new;
+          writes_failed = P.faults out.new;
+          matched = tally.new.matched;
+          steps = steps.new;
+        }) }
+    ensures absent { IfSome (R.files reader.old) (λ files. map.get files name.now ≡ None → (out.new ≡ out.old) × (gate.new ≡ gate.old) × (tally.new ≡ tally.old) × (steps.new ≡ steps.old)) }
+    ensures missing { result ≡ Outcome.Missing → (out.new ≡ out.old) × (gate.new ≡ gate.old) × (tally.new ≡ tally.old) × (steps.new ≡ steps.old) × (R.given reader.new ≡ R.given reader.old) }
     ensures only_counted { IsTrue query.now.count_only → out.new ≡ out.old }
-    ensures steps_rise { steps.old ≤ steps.new }
-    ensures read_fault { result ≡ Outcome.ReadFault → Rose (R.faults reader.old) (R.faults reader.new) }
-    ensures gate_fault { result ≡ Outcome.GateFault → Rose (G.faults gate.old) (G.faults gate.new) }
-    ensures write_fault { result ≡ Outcome.WriteFault → Rose (P.faults out.old) (P.faults out.new) }
-    ensures files { R.files reader.new ≡ R.files reader.old }
-    ensures tests { G.tests gate.new ≡ G.tests gate.old }
-    ensures given_rises { R.given reader.old ≤ R.given reader.new }
-    ensures given_within { R.given reader.new ≤ R.given reader.old + 2 ^ 40 }
-    ensures later { R.faults reader.old ≤ R.faults reader.new }
-    ensures gate_later { G.faults gate.old ≤ G.faults gate.new }
-    ensures out_later { P.faults out.old ≤ P.faults out.new }
-    ensures asks_rise { G.asks gate.old ≤ G.asks gate.new }
     ensures gate_kept { G.kept gate.old gate.new }
     ensures out_kept { P.kept out.old out.new }
 {
@@ -97,40 +94,38 @@ pub fn search_by<M: Matcher, R: Reader, G: Gate, P: Sink, L: Ledger>(
 ) -> Outcome
     requires room { tally.old.matched ≤ 2 ^ 62 }
     requires below { IfSome query.now.limit (λ limit. tally.old.matched < limit) }
-    ensures missing { IfSome (R.files reader.old) (λ files. result ≡ Outcome.Missing → map.get files name.now ≡ None) }
-    ensures absent { IfSome (R.files reader.old) (λ files. map.get files name.now ≡ None → IsTrue (is_missing_or_read_fault result)) }
-    ensures nothing { IfSome (R.files reader.old) (λ files. map.get files name.now ≡ None → (out.new ≡ out.old) × (gate.new ≡ gate.old) × (tally.new ≡ tally.old) × (steps.new ≡ steps.old)) }
-    ensures read_none { IfSome (R.files reader.old) (λ files. map.get files name.now ≡ None → R.given reader.new ≡ R.given reader.old) }
-    ensures unopened { result ≡ Outcome.Missing → (out.new ≡ out.old) × (gate.new ≡ gate.old) × (tally.new ≡ tally.old) × (steps.new ≡ steps.old) × (R.given reader.new ≡ R.given reader.old) }
-    ensures searched { IfSome (R.files reader.old) (λ files. IfSome (map.get files name.now) (λ file.
-        SearchesFile (M.test matcher.old) (M.bound matcher.old) query.now file (G.tests gate.old) (R.given reader.old) (R.given reader.new)
-        (stand (P.taken out.old) tally.old.matched (G.asks gate.old)) (stand (P.taken out.new) tally.new.matched (G.asks gate.new)) steps.old steps.new result)) }
-    ensures exact { IfSome (R.files reader.old) (λ files. IfSome (map.get files name.now) (λ file.
-        (Rose (R.faults reader.old) (R.faults reader.new) → ⊥) → (Rose (G.faults gate.old) (G.faults gate.new) → ⊥) → (Rose (P.faults out.old) (P.faults out.new) → ⊥) →
-        SearchesAll (M.test matcher.old) query.now file (G.tests gate.old) (stand (P.taken out.old) tally.old.matched (G.asks gate.old)) (stand (P.taken out.new) tally.new.matched (G.asks gate.new)) result)) }
-    ensures read_once { IfSome (R.files reader.old) (λ files. IfSome (map.get files name.now) (λ file. ReadsOnce file (R.given reader.old) (R.given reader.new) result)) }
-    ensures ended { IfSome (R.files reader.old) (λ files. IfSome (map.get files name.now) (λ file. EndsWithin (M.bound matcher.old) (contents file) steps.old steps.new result)) }
-    ensures limit { result ≡ Outcome.LimitReached → query.now.limit ≡ Some tally.new.matched }
-    ensures under { (result ≡ Outcome.LimitReached → ⊥) → IfSome query.now.limit (λ limit. tally.new.matched < limit) }
-    ensures rises { tally.old.matched ≤ tally.new.matched }
-    ensures within { tally.new.matched ≤ tally.old.matched + 2 ^ 40 }
+    ensures searches { SearchesNamed (M.sought matcher.old) query.now name.now
+        (record {
+          files = R.files reader.old;
+          given = R.given reader.old;
+          reads_failed = R.faults reader.old;
+          tests = G.tests gate.old;
+          asks = G.asks gate.old;
+          gate_failed = G.faults gate.old;
+          taken = P.taken out.old;
+          writes_failed = P.faults out.old;
+          matched = tally.old.matched;
+          steps = steps.old;
+        })
+        result
+        (record {
+          files = R.files reader.new;
+          given = R.given reader.new;
+          reads_failed = R.faults reader.new;
+          tests = G.tests gate.new;
+          asks = G.asks gate.new;
+          gate_failed = G.faults gate.new;
+          taken = P.taken out.new;
+          writes_failed = P.faults out.new;
+          matched = tally.new.matched;
+          steps = steps.new;
+        }) }
+    ensures absent { IfSome (R.files reader.old) (λ files. map.get files name.now ≡ None → (out.new ≡ out.old) × (gate.new ≡ gate.old) × (tally.new ≡ tally.old) × (steps.new ≡ steps.old)) }
+    ensures missing { result ≡ Outcome.Missing → (out.new ≡ out.old) × (gate.new ≡ gate.old) × (tally.new ≡ tally.old) × (steps.new ≡ steps.old) × (R.given reader.new ≡ R.given reader.old) }
     ensures only_counted { IsTrue query.now.count_only → out.new ≡ out.old }
-    ensures steps_rise { steps.old ≤ steps.new }
-    ensures read_fault { result ≡ Outcome.ReadFault → Rose (R.faults reader.old) (R.faults reader.new) }
-    ensures gate_fault { result ≡ Outcome.GateFault → Rose (G.faults gate.old) (G.faults gate.new) }
-    ensures write_fault { result ≡ Outcome.WriteFault → Rose (P.faults out.old) (P.faults out.new) }
-    ensures files { R.files reader.new ≡ R.files reader.old }
-    ensures tests { G.tests gate.new ≡ G.tests gate.old }
-    ensures given_rises { R.given reader.old ≤ R.given reader.new }
-    ensures given_within { R.given reader.new ≤ R.given reader.old + 2 ^ 40 }
-    ensures test { M.test matcher.new ≡ M.test matcher.old }
-    ensures bound { M.bound matcher.new ≡ M.bound matcher.old }
-    ensures later { R.faults reader.old ≤ R.faults reader.new }
-    ensures gate_later { G.faults gate.old ≤ G.faults gate.new }
-    ensures out_later { P.faults out.old ≤ P.faults out.new }
-    ensures asks_rise { G.asks gate.old ≤ G.asks gate.new }
     ensures gate_kept { G.kept gate.old gate.new }
     ensures out_kept { P.kept out.old out.new }
+    ensures matcher { M.sought matcher.new ≡ M.sought matcher.old }
 {
     match reader.open_file(name) {
         Ok(Opened::Found) => search_open(matcher, query, reader, gate, out, tally, steps),
@@ -151,31 +146,63 @@ fn search_open<M: Matcher, R: Reader, G: Gate, P: Sink, L: Ledger>(
 ) -> Outcome
     requires room { tally.old.matched ≤ 2 ^ 62 }
     requires below { IfSome query.now.limit (λ limit. tally.old.matched < limit) }
-    ensures searched { IfSome (R.left reader.old) (λ file.
-        SearchesFile (M.test matcher.old) (M.bound matcher.old) query.now file (G.tests gate.old) (R.given reader.old) (R.given reader.new)
-        (stand (P.taken out.old) tally.old.matched (G.asks gate.old)) (stand (P.taken out.new) tally.new.matched (G.asks gate.new)) steps.old steps.new result) }
-    ensures read_once { IfSome (R.left reader.old) (λ file. ReadsOnce file (R.given reader.old) (R.given reader.new) result) }
-    ensures ended { IfSome (R.left reader.old) (λ file. EndsWithin (M.bound matcher.old) (contents file) steps.old steps.new result) }
-    ensures limit { result ≡ Outcome.LimitReached → query.now.limit ≡ Some tally.new.matched }
-    ensures under { (result ≡ Outcome.LimitReached → ⊥) → IfSome query.now.limit (λ limit. tally.new.matched < limit) }
-    ensures rises { tally.old.matched ≤ tally.new.matched }
-    ensures within { tally.new.matched ≤ tally.old.matched + 2 ^ 40 }
-    ensures only_counted { IsTrue query.now.count_only → out.new ≡ out.old }
-    ensures steps_rise { steps.old ≤ steps.new }
+    ensures searches { IfSome (R.left reader.old) (λ file. SearchesFile (M.sought matcher.old) query.now file
+        (record {
+          files = R.files reader.old;
+          given = R.given reader.old;
+          reads_failed = R.faults reader.old;
+          tests = G.tests gate.old;
+          asks = G.asks gate.old;
+          gate_failed = G.faults gate.old;
+          taken = P.taken out.old;
+          writes_failed = P.faults out.old;
+          matched = tally.old.matched;
+          steps = steps.old;
+        })
+        result
+        (record {
+          files = R.files reader.new;
+          given = R.given reader.new;
+          reads_failed = R.faults reader.new;
+          tests = G.tests gate.new;
+          asks = G.asks gate.new;
+          gate_failed = G.faults gate.new;
+          taken = P.taken out.new;
+          writes_failed = P.faults out.new;
+          matched = tally.new.matched;
+          steps = steps.new;
+        })) }
     ensures there { result ≡ Outcome.Missing → ⊥ }
-    ensures read_fault { result ≡ Outcome.ReadFault → Rose (R.faults reader.old) (R.faults reader.new) }
-    ensures gate_fault { result ≡ Outcome.GateFault → Rose (G.faults gate.old) (G.faults gate.new) }
-    ensures write_fault { result ≡ Outcome.WriteFault → Rose (P.faults out.old) (P.faults out.new) }
-    ensures tests { G.tests gate.new ≡ G.tests gate.old }
-    ensures given_rises { R.given reader.old ≤ R.given reader.new }
-    ensures given_within { R.given reader.new ≤ R.given reader.old + 2 ^ 40 }
-    ensures test { M.test matcher.new ≡ M.test matcher.old }
-    ensures bound { M.bound matcher.new ≡ M.bound matcher.old }
-    ensures later { R.faults reader.old ≤ R.faults reader.new }
-    ensures gate_later { G.faults gate.old ≤ G.faults gate.new }
-    ensures out_later { P.faults out.old ≤ P.faults out.new }
+    ensures limit { MeetsLimit query.now.limit result tally.new.matched }
+    ensures moves { Moves
+        (record {
+          files = R.files reader.old;
+          given = R.given reader.old;
+          reads_failed = R.faults reader.old;
+          tests = G.tests gate.old;
+          asks = G.asks gate.old;
+          gate_failed = G.faults gate.old;
+          taken = P.taken out.old;
+          writes_failed = P.faults out.old;
+          matched = tally.old.matched;
+          steps = steps.old;
+        })
+        result
+        (record {
+          files = R.files reader.new;
+          given = R.given reader.new;
+          reads_failed = R.faults reader.new;
+          tests = G.tests gate.new;
+          asks = G.asks gate.new;
+          gate_failed = G.faults gate.new;
+          taken = P.taken out.new;
+          writes_failed = P.faults out.new;
+          matched = tally.new.matched;
+          steps = steps.new;
+        }) }
+    ensures only_counted { IsTrue query.now.count_only → out.new ≡ out.old }
+    ensures matcher { M.sought matcher.new ≡ M.sought matcher.old }
     ensures kept { R.kept reader.old reader.new }
-    ensures asks_rise { G.asks gate.old ≤ G.asks gate.new }
     ensures gate_kept { G.kept gate.old gate.new }
     ensures out_kept { P.kept out.old out.new }
 {

@@ -1,7 +1,7 @@
 //! The paths that the patterns of a query want.
 ghost use Rattle.std.specs.Prelude.{◌≡◌, ◌+◌, ◌≤◌, ◌↔◌, IsTrue, sum_by};
 ghost use Rattle.std.specs.List.{list_all, list_any};
-ghost use Rattle.locate_engine.specs.Globs.{judged, in_glob, wanted_by, wanted, Wants, steps_of, steps_on};
+ghost use Rattle.locate_engine.specs.Globs.{judged, in_glob, wanted_by, wanted, Wants, sought_of, steps_of};
 
 use crate::globs::Globs;
 use crate::matcher::Matcher;
@@ -36,9 +36,7 @@ impl<'q> GlobMatcher<'q> {
 }
 
 impl Matcher for GlobMatcher<'_> {
-    ghost test = { λ m path. wanted m path };
-
-    ghost bound = { λ m path. steps_on m path };
+    ghost sought = { λ m. sought_of m };
 
     #[inline(always)]
     fn wants<L: Ledger>(&mut self, path: &[u8], steps: &mut Steps<L>) -> bool {

@@ -1,9 +1,10 @@
 //! The search of a stream of paths.
-ghost use Rattle.std.specs.Prelude.{◌≡◌, ◌≤◌, ◌<◌, ◌+◌, ◌^◌, ◌||◌, true, false, Some, IfSome, IsTrue};
-ghost use Rattle.loc_outside.specs.Causes.{Rose};
+ghost use Rattle.std.specs.Prelude.{◌≡◌, ◌≤◌, ◌<◌, ◌^◌, ◌||◌, None, IfSome, IsTrue};
 ghost use Rattle.byte_feed.specs.Feed.{Draws, reach};
 ghost use Rattle.locate_engine.specs.Passing.{rule_of, tests_asked};
-ghost use Rattle.locate_engine.specs.Searched.{EndsWithinKnown, OneDirectoryLeft, SearchesKnown, stand};
+ghost use Rattle.locate_engine.specs.Searched.{stand};
+ghost use Rattle.locate_engine.specs.Sight.{MeetsLimit, Moves};
+ghost use Rattle.locate_engine.specs.Streamed.{EndsWithinKnown, OneDirectoryLeft, SearchesKnown, StreamAfter};
 
 use crate::asking::{Block, Step, take_path};
 use crate::matcher::Matcher;
@@ -39,37 +40,46 @@ pub(crate) fn search_paths<P: PathStream, S: Source, M: Matcher, G: Gate, K: Sin
     requires room { tally.old.matched ≤ 2 ^ 62 }
     requires below { IfSome query.now.limit (λ limit. tally.old.matched < limit) }
     ensures searched { OneDirectoryLeft (P.is_gated stream.old) (P.to_come stream.old) (P.feed stream.old) (S.left src.old) → IfSome (tests_asked (P.is_gated stream.old || query.now.existing) (G.tests gate.old)) (λ told.
-        SearchesKnown (rule_of (M.test matcher.old) query.now (P.is_gated stream.old) told) (M.bound matcher.old) (P.to_come stream.old) (P.feed stream.old) (S.left src.old) (S.left src.new)
+        SearchesKnown (rule_of (M.sought matcher.old).wanted query.now (P.is_gated stream.old) told) (M.sought matcher.old).bound (P.to_come stream.old) (P.feed stream.old) (S.left src.old) (S.left src.new)
         (stand (K.taken out.old) tally.old.matched (G.asks gate.old)) (stand (K.taken out.new) tally.new.matched (G.asks gate.new)) steps.old steps.new result (reach (P.feed stream.new))) }
-    ensures ended { EndsWithinKnown (M.bound matcher.old) (P.to_come stream.old) (P.feed stream.old) (S.left src.old) steps.old steps.new result }
-    ensures limit { result ≡ Outcome.LimitReached → query.now.limit ≡ Some tally.new.matched }
-    ensures under { (result ≡ Outcome.LimitReached → ⊥) → IfSome query.now.limit (λ limit. tally.new.matched < limit) }
-    ensures rises { tally.old.matched ≤ tally.new.matched }
-    ensures within { tally.new.matched ≤ tally.old.matched + 2 ^ 40 }
+    ensures ended { EndsWithinKnown (M.sought matcher.old).bound (P.to_come stream.old) (P.feed stream.old) (S.left src.old) steps.old steps.new result }
+    ensures limit { MeetsLimit query.now.limit result tally.new.matched }
+    ensures moves { Moves
+        (record {
+          files = None;
+          given = S.given src.old;
+          reads_failed = S.faults src.old;
+          tests = G.tests gate.old;
+          asks = G.asks gate.old;
+          gate_failed = G.faults gate.old;
+          taken = K.taken out.old;
+          writes_failed = K.faults out.old;
+          matched = tally.old.matched;
+          steps = steps.old;
+        })
+        result
+        (record {
+          files = None;
+          given = S.given src.new;
+          reads_failed = S.faults src.new;
+          tests = G.tests gate.new;
+          asks = G.asks gate.new;
+          gate_failed = G.faults gate.new;
+          taken = K.taken out.new;
+          writes_failed = K.faults out.new;
+          matched = tally.new.matched;
+          steps = steps.new;
+        }) }
     ensures only_counted { IsTrue query.now.count_only → out.new ≡ out.old }
-    ensures steps_rise { steps.old ≤ steps.new }
-    ensures there { result ≡ Outcome.Missing → ⊥ }
-    ensures read_fault { result ≡ Outcome.ReadFault → Rose (S.faults src.old) (S.faults src.new) }
-    ensures gate_fault { result ≡ Outcome.GateFault → Rose (G.faults gate.old) (G.faults gate.new) }
-    ensures write_fault { result ≡ Outcome.WriteFault → Rose (K.faults out.old) (K.faults out.new) }
-    ensures spent { (result ≡ Outcome.LimitReached → ⊥) → (result ≡ Outcome.GateFault → ⊥) → (result ≡ Outcome.WriteFault → ⊥) → P.is_live stream.new ≡ false }
-    ensures whole { result ≡ Outcome.Whole → (P.feed stream.new).ended ≡ true }
-    ensures too_large { result ≡ Outcome.TooLarge → reach (P.feed stream.new) ≡ 2 ^ 40 }
+    ensures stops { StreamAfter (P.feed stream.new) (P.is_live stream.new) result }
     ensures drawn { Draws (P.feed stream.old) (P.feed stream.new) (S.given src.old) (S.given src.new) (S.left src.old) (S.left src.new) }
-    ensures reach { reach (P.feed stream.new) ≤ 2 ^ 40 }
-    ensures later { S.faults src.old ≤ S.faults src.new }
-    ensures gate_later { G.faults gate.old ≤ G.faults gate.new }
-    ensures out_later { K.faults out.old ≤ K.faults out.new }
+    ensures matcher { M.sought matcher.new ≡ M.sought matcher.old }
     ensures kept { S.kept src.old src.new }
-    ensures asks_rise { G.asks gate.old ≤ G.asks gate.new }
     ensures gate_kept { G.kept gate.old gate.new }
     ensures out_kept { K.kept out.old out.new }
-    ensures tests { G.tests gate.new ≡ G.tests gate.old }
-    ensures test { M.test matcher.new ≡ M.test matcher.old }
-    ensures bound { M.bound matcher.new ≡ M.bound matcher.old }
 {
     let mut block = Block {
-        heads: None,
+        number: None,
         shown: false,
     };
     'paths: loop {

@@ -15,12 +15,12 @@ use Rattle.locate_tools.specs.declared.answer.Cause.{Cause}
 use Rattle.locate_tools.specs.declared.answer.Cause.TheVariants as causes
 use Rattle.locate_tools.specs.declared.answer.Ending.{Ending}
 use Rattle.locate_tools.specs.Calls.{CallMade, request_of, tool_called}
-use Rattle.locate_tools.specs.Does.{Does, Leaves, LeavesLocate, RunsLocate, RunsUpdatedb, Works, known_in, standing_in}
-use Rattle.locate_tools.specs.Ran.{LocateRun}
+use Rattle.locate_tools.specs.Does.{Does, Leaves, LeavesLocate, RunsLocate, RunsUpdatedb, Works, standing_in}
+use Rattle.locate_tools.specs.LocateRun.{LocateRun}
 use Rattle.locate_tools.specs.Standing.{Standing}
 use Rattle.locate_tools.specs.Statuses.{status_of}
 use Rattle.locate_tools.specs.Told.{told}
-use Rattle.locate_tools.specs.Updates.{UpdatedbRun, around_in}
+use Rattle.locate_tools.specs.UpdatedbRun.{UpdatedbRun, around_in}
 use Rattle.locate_tools.proofs.Runs.{run_nothing}
 use Rattle.locate_tools.proofs.Updating.{run_none}
 
@@ -43,9 +43,9 @@ works_memory (Some (Updatedb asked)) now before ending after is outcomes standin
   outcomes = outcomes;
 }
 works_memory (Some (Locate asked)) now before ending after is outcomes standing around = record {
-  run = subst (λ (s : Standing). LocateRun asked (known_in before) (standing_in before) s ending.outcomes ending.cause) (sym standing)
-      (subst (λ (os : List Outcome). LocateRun asked (known_in before) (standing_in before) (standing_in before) os ending.cause) (sym outcomes)
-      (subst (λ (cause : Cause). LocateRun asked (known_in before) (standing_in before) (standing_in before) [] cause) (sym is) (run_nothing asked (known_in before) (standing_in before))));
+  run = subst (λ (s : Standing). LocateRun asked (standing_in before) s ending.outcomes ending.cause) (sym standing)
+      (subst (λ (os : List Outcome). LocateRun asked (standing_in before) (standing_in before) os ending.cause) (sym outcomes)
+      (subst (λ (cause : Cause). LocateRun asked (standing_in before) (standing_in before) [] cause) (sym is) (run_nothing asked (standing_in before))));
   accepted = not_usage ending.cause is;
 }
 works_memory (Some (Convert asked)) now before ending after is outcomes standing around = record { cause = inr is; outcomes = outcomes }

@@ -11,9 +11,9 @@ use Rattle.loc_outside.specs.Causes.{Rose}
 use Rattle.loc_outside.specs.Files.{Files}
 use Rattle.loc_outside.specs.Gates.{Tests}
 use Rattle.byte_feed.specs.Paths.{PathAt, ToCome}
-use Rattle.locate_engine.specs.Globs.{wanted}
 use Rattle.locate_engine.specs.Passing.{Rule, up_to, tests_asked}
 use Rattle.locate_engine.specs.Searched.{Stand, SearchesWhole, at_limit, outcome_of}
+use Rattle.locate_engine.specs.Sought.{Sought}
 use Rattle.any_db.specs.Formats.{contents, is_gated}
 use Rattle.locate_engine.specs.declared.query.Query.{Query}
 use Rattle.locate_engine.specs.declared.outcome.Outcome.{Outcome}
@@ -21,10 +21,10 @@ use Rattle.locate_engine.specs.declared.outcome.Outcome.TheVariants as outcomes
 use Rattle.byte_feed.specs.declared.damage.DbFault.TheVariants as faults
 use Rattle.byte_feed.specs.Endings.{Ending}
 use Rattle.std.specs.Prelude.{Ok, Err}
-use Rattle.locate_tools.specs.Ran.{is_write_fault}
+use Rattle.locate_tools.specs.LocateRun.{is_write_fault}
 use Rattle.locate_tools.specs.Standing.{Standing, Goes, IsComplete, ends_run}
-use Rattle.locate_tools.specs.Tried.{known, TriedSearch, Moves, NoneFailed, IsMissingOrFailed, SearchedAll, stand_of}
-use Rattle.locate_tools.specs.Located.{World, gated_in, passing_in, passing_at, ending_in, ending_at, found, endings, lines_of}
+use Rattle.locate_tools.specs.Tried.{TriedSearch, Moves, NoneFailed, IsMissingOrFailed, SearchedAll, stand_of}
+use Rattle.locate_tools.specs.LocateExact.{World, gated_in, passing_in, passing_at, ending_in, ending_at, found, endings, lines_of}
 
 -- ---- counts of failures along a run
 
@@ -189,11 +189,11 @@ unread_missing outcomes.TooLarge (inl e) read write = absurd cc
 unread_missing outcomes.LimitReached (inl e) read write = absurd cc
 unread_missing outcomes.WriteFault (inl e) read write = absurd cc
 
-finds_in : (there : Option (List ℕ)) (query : Query) (tests : Option Tests) (world : Tests) (s : Standing) (o : Outcome) (s' : Standing) → Moves s o s' → NoneFailed s s' → Below query.limit s.matched
-    → (asks_one query there ≡ true → tests ≡ Some world)
-    → (there ≡ None → IsMissingOrFailed o) → (there ≡ None → stand_of s' ≡ stand_of s) → IfSome there (λ file. NoneFailed s s' → SearchedAll query tests file s o s')
-    → Finds query (passing_in query world there) (ending_in there) s o s'
-finds_in None query tests world s o s' moves none below fits absent nothing whole =
+finds_in : (there : Option (List ℕ)) (sought : Sought) (query : Query) (world : Tests) (s : Standing) (o : Outcome) (s' : Standing) → Moves s o s' → NoneFailed s s' → Below query.limit s.matched
+    → (asks_one query there ≡ true → s.tests ≡ Some world)
+    → (there ≡ None → IsMissingOrFailed o) → (there ≡ None → stand_of s' ≡ stand_of s) → IfSome there (λ file. NoneFailed s s' → SearchedAll sought query file s o s')
+    → Finds query (passing_in sought query world there) (ending_in there) s o s'
+finds_in None sought query world s o s' moves none below fits absent nothing whole =
     let missing : o ≡ outcomes.Missing = unread_missing o (absent refl) (λ e. none.0 (moves.read_fault e)) (λ e. none.2 (moves.write_fault e)) in
     let same : stand_of s' ≡ stand_of s = nothing refl in
     let taken : s'.taken ≡ s.taken = ap (λ (x : Stand). x.taken) same in
@@ -204,22 +204,25 @@ finds_in None query tests world s o s' moves none below fits absent nothing whol
       counts = subst (λ (ps : List PathAt). s'.matched ≡ s.matched + length ps) (sym empty) (omega (arith, matched));
       ends = subst (λ (b : Bool). o ≡ (if b then outcomes.LimitReached else outcomes.Missing)) (sym (ap (at_limit query.limit) matched ∙ below_not_at query.limit s.matched below)) missing;
     }
-finds_in (Some file) query tests world s o s' moves none below fits absent nothing whole =
-    let done = whole_by (is_gated file) query.existing (wanted query) query tests world (contents file) (stand_of s) (stand_of s') o fits (whole none) in
+finds_in (Some file) sought query world s o s' moves none below fits absent nothing whole =
+    let done = whole_by (is_gated file) query.existing sought.wanted query s.tests world (contents file) (stand_of s) (stand_of s') o fits (whole none) in
     record { prints = done.prints; counts = done.counts; ends = done.ends }
 
-pub tried_finds : (query : Query) (world : World) (tests : Option Tests) (name : List ℕ) (s : Standing) (o : Outcome) (s' : Standing) → TriedSearch query (known (Some world.files) tests) name s o s' → NoneFailed s s' → Below query.limit s.matched
-    → (asks_one query (get world.files name) ≡ true → tests ≡ Some world.tests) → Finds query (passing_at query world name) (ending_at world name) s o s'
-tried_finds query world tests name s o s' tried none below fits =
-    finds_in (get world.files name) query tests world.tests s o s' tried.answers.moves none below fits tried.answers.absent tried.answers.nothing tried.whole
+pub tried_finds : (sought : Sought) (query : Query) (world : World) (name : List ℕ) (s : Standing) (o : Outcome) (s' : Standing) → s.files ≡ Some world.files → TriedSearch sought query name s o s' → NoneFailed s s' → Below query.limit s.matched
+    → (asks_one query (get world.files name) ≡ true → s.tests ≡ Some world.tests) → Finds query (passing_at sought query world name) (ending_at world name) s o s'
+tried_finds sought query world name s o s' files tried none below fits =
+    finds_in (get world.files name) sought query world.tests s o s' tried.answers.moves none below fits
+    (subst (λ (known : Option Files). IfSome known (λ files. get files name ≡ None → IsMissingOrFailed o)) files tried.answers.absent)
+    (subst (λ (known : Option Files). IfSome known (λ files. get files name ≡ None → stand_of s' ≡ stand_of s)) files tried.answers.nothing)
+    (subst (λ (known : Option Files). IfSome known (λ files. IfSome (get files name) (λ file. NoneFailed s s' → SearchedAll sought query file s o s'))) files tried.whole)
 
 -- ---- all databases
 
 -- What a list of databases gives where no call fails.
-pub record FindsAll (query : Query) (world : World) (names : List (List ℕ)) (s : Standing) (os : List Outcome) (s' : Standing) : Type 0 where
-  pub prints : Appends s.taken s'.taken (lines_of query (found query world s.matched names))
-  pub counts : s'.matched ≡ s.matched + length (found query world s.matched names)
-  pub ends : os ≡ endings query world s.matched names
+pub record FindsAll (sought : Sought) (query : Query) (world : World) (names : List (List ℕ)) (s : Standing) (os : List Outcome) (s' : Standing) : Type 0 where
+  pub prints : Appends s.taken s'.taken (lines_of query (found sought query world s.matched names))
+  pub counts : s'.matched ≡ s.matched + length (found sought query world s.matched names)
+  pub ends : os ≡ endings sought query world s.matched names
 
 read_on : (e : Ending) → ends_run (outcome_of e) ≡ false
 read_on (Ok x) = refl
@@ -232,9 +235,9 @@ pub ending_on : (there : Option (List ℕ)) → ends_run (ending_in there) ≡ f
 ending_on None = refl
 ending_on (Some file) = read_on (contents file).ending
 
-pub finds_none : (query : Query) (world : World) (s s' : Standing) → s ≡ s' → FindsAll query world [] s [] s'
-finds_none query world s s' same =
-    subst (λ (t : Standing). FindsAll query world [] s [] t) same
+pub finds_none : (sought : Sought) (query : Query) (world : World) (s s' : Standing) → s ≡ s' → FindsAll sought query world [] s [] s'
+finds_none sought query world s s' same =
+    subst (λ (t : Standing). FindsAll sought query world [] s [] t) same
     (let empty : up_to query.limit s.matched [] ≡ [] = up_to_none query.limit s.matched in
     record {
       prints = subst (λ (ps : List PathAt). Appends s.taken s.taken (lines_of query ps)) (sym empty) (Appends-nil s.taken);
@@ -243,44 +246,44 @@ finds_none query world s s' same =
     })
 
 -- after the database in which the limit is reached
-finds_last : (b : Bool) (query : Query) (world : World) (name : List ℕ) (names : List (List ℕ)) (s : Standing) (o : Outcome) (os : List Outcome) (t s' : Standing)
-    → at_limit query.limit t.matched ≡ b → Finds query (passing_at query world name) (ending_at world name) s o t → Below query.limit s.matched
-    → MatchBool (ends_run o) (os ≡ []) (IsComplete names os) → (os ≡ [] → t ≡ s') → (Below query.limit t.matched → IsComplete names os → FindsAll query world names t os s')
-    → FindsAll query world (name ∷ names) s (o ∷ os) s'
-finds_last true query world name names s o os t s' at finds below complete stops next =
-    let now : t.matched ≡ s.matched + length (up_to query.limit s.matched (passing_at query world name)) = finds.counts in
-    let reached : at_limit query.limit (s.matched + length (up_to query.limit s.matched (passing_at query world name))) ≡ true = ap (at_limit query.limit) (sym now) ∙ at in
+finds_last : (b : Bool) (sought : Sought) (query : Query) (world : World) (name : List ℕ) (names : List (List ℕ)) (s : Standing) (o : Outcome) (os : List Outcome) (t s' : Standing)
+    → at_limit query.limit t.matched ≡ b → Finds query (passing_at sought query world name) (ending_at world name) s o t → Below query.limit s.matched
+    → MatchBool (ends_run o) (os ≡ []) (IsComplete names os) → (os ≡ [] → t ≡ s') → (Below query.limit t.matched → IsComplete names os → FindsAll sought query world names t os s')
+    → FindsAll sought query world (name ∷ names) s (o ∷ os) s'
+finds_last true sought query world name names s o os t s' at finds below complete stops next =
+    let now : t.matched ≡ s.matched + length (up_to query.limit s.matched (passing_at sought query world name)) = finds.counts in
+    let reached : at_limit query.limit (s.matched + length (up_to query.limit s.matched (passing_at sought query world name))) ≡ true = ap (at_limit query.limit) (sym now) ∙ at in
     let is : o ≡ outcomes.LimitReached = finds.ends ∙ ap (λ (x : Bool). if x then outcomes.LimitReached else ending_at world name) at in
     let none : os ≡ [] = subst (λ (x : Outcome). MatchBool (ends_run x) (os ≡ []) (IsComplete names os)) is complete in
     let end : t ≡ s' = stops none in
-    let all : found query world s.matched (name ∷ names) ≡ up_to query.limit s.matched (passing_at query world name) =
-    up_to_append query.limit s.matched (passing_at query world name) (flat_map (passing_at query world) names)
-    ∙ ap (λ (ps : List PathAt). up_to query.limit s.matched (passing_at query world name) ++ ps) (at_limit_none query.limit _ (flat_map (passing_at query world) names) reached)
-    ∙ append-nil (up_to query.limit s.matched (passing_at query world name)) in
-    subst (λ (u : Standing). FindsAll query world (name ∷ names) s (o ∷ os) u) end
+    let all : found sought query world s.matched (name ∷ names) ≡ up_to query.limit s.matched (passing_at sought query world name) =
+    up_to_append query.limit s.matched (passing_at sought query world name) (flat_map (passing_at sought query world) names)
+    ∙ ap (λ (ps : List PathAt). up_to query.limit s.matched (passing_at sought query world name) ++ ps) (at_limit_none query.limit _ (flat_map (passing_at sought query world) names) reached)
+    ∙ append-nil (up_to query.limit s.matched (passing_at sought query world name)) in
+    subst (λ (u : Standing). FindsAll sought query world (name ∷ names) s (o ∷ os) u) end
     (record {
       prints = subst (λ (ps : List PathAt). Appends s.taken t.taken (lines_of query ps)) (sym all) finds.prints;
       counts = subst (λ (ps : List PathAt). t.matched ≡ s.matched + length ps) (sym all) finds.counts;
-      ends = subst (λ (b : Bool). o ∷ os ≡ (if b then outcomes.LimitReached ∷ [] else ending_at world name ∷ endings query world (s.matched + length (up_to query.limit s.matched (passing_at query world name))) names)) (sym reached) (ap (λ (x : Outcome). x ∷ os) is ∙ ap (λ (x : List Outcome). outcomes.LimitReached ∷ x) none);
+      ends = subst (λ (b : Bool). o ∷ os ≡ (if b then outcomes.LimitReached ∷ [] else ending_at world name ∷ endings sought query world (s.matched + length (up_to query.limit s.matched (passing_at sought query world name))) names)) (sym reached) (ap (λ (x : Outcome). x ∷ os) is ∙ ap (λ (x : List Outcome). outcomes.LimitReached ∷ x) none);
     })
-finds_last false query world name names s o os t s' at finds below complete stops next =
-    let now : t.matched ≡ s.matched + length (up_to query.limit s.matched (passing_at query world name)) = finds.counts in
-    let reached : at_limit query.limit (s.matched + length (up_to query.limit s.matched (passing_at query world name))) ≡ false = ap (at_limit query.limit) (sym now) ∙ at in
+finds_last false sought query world name names s o os t s' at finds below complete stops next =
+    let now : t.matched ≡ s.matched + length (up_to query.limit s.matched (passing_at sought query world name)) = finds.counts in
+    let reached : at_limit query.limit (s.matched + length (up_to query.limit s.matched (passing_at sought query world name))) ≡ false = ap (at_limit query.limit) (sym now) ∙ at in
     let is : o ≡ ending_at world name = finds.ends ∙ ap (λ (x : Bool). if x then outcomes.LimitReached else ending_at world name) at in
     let on : ends_run o ≡ false = ap ends_run is ∙ ending_on (get world.files name) in
     let more : IsComplete names os = subst (λ (b : Bool). MatchBool b (os ≡ []) (IsComplete names os)) on complete in
-    let rest = next (still_below query.limit s.matched t.matched (passing_at query world name) below now at) more in
-    let all : found query world s.matched (name ∷ names) ≡ up_to query.limit s.matched (passing_at query world name) ++ found query world t.matched names =
-    up_to_append query.limit s.matched (passing_at query world name) (flat_map (passing_at query world) names)
-    ∙ ap (λ (m : ℕ). up_to query.limit s.matched (passing_at query world name) ++ found query world m names) (sym now) in
+    let rest = next (still_below query.limit s.matched t.matched (passing_at sought query world name) below now at) more in
+    let all : found sought query world s.matched (name ∷ names) ≡ up_to query.limit s.matched (passing_at sought query world name) ++ found sought query world t.matched names =
+    up_to_append query.limit s.matched (passing_at sought query world name) (flat_map (passing_at sought query world) names)
+    ∙ ap (λ (m : ℕ). up_to query.limit s.matched (passing_at sought query world name) ++ found sought query world m names) (sym now) in
     record {
       prints = subst (λ (ps : List PathAt). Appends s.taken s'.taken (lines_of query ps)) (sym all)
-          (subst (λ (text : List ℕ). Appends s.taken s'.taken text) (sym (flat_map-append _ (up_to query.limit s.matched (passing_at query world name)) (found query world t.matched names)))
+          (subst (λ (text : List ℕ). Appends s.taken s'.taken text) (sym (flat_map-append _ (up_to query.limit s.matched (passing_at sought query world name)) (found sought query world t.matched names)))
           (Appends-trans s.taken t.taken s'.taken _ _ finds.prints rest.prints));
       counts = subst (λ (ps : List PathAt). s'.matched ≡ s.matched + length ps) (sym all)
-          (omega (arith, rest.counts, now, length-append (up_to query.limit s.matched (passing_at query world name)) (found query world t.matched names)));
-      ends = subst (λ (b : Bool). o ∷ os ≡ (if b then outcomes.LimitReached ∷ [] else ending_at world name ∷ endings query world (s.matched + length (up_to query.limit s.matched (passing_at query world name))) names)) (sym reached)
-          (ap (λ (x : Outcome). x ∷ os) is ∙ ap (λ (x : List Outcome). ending_at world name ∷ x) (rest.ends ∙ ap (λ (m : ℕ). endings query world m names) now));
+          (omega (arith, rest.counts, now, length-append (up_to query.limit s.matched (passing_at sought query world name)) (found sought query world t.matched names)));
+      ends = subst (λ (b : Bool). o ∷ os ≡ (if b then outcomes.LimitReached ∷ [] else ending_at world name ∷ endings sought query world (s.matched + length (up_to query.limit s.matched (passing_at sought query world name))) names)) (sym reached)
+          (ap (λ (x : Outcome). x ∷ os) is ∙ ap (λ (x : List Outcome). ending_at world name ∷ x) (rest.ends ∙ ap (λ (m : ℕ). endings sought query world m names) now));
     }
 
 stops_here : (one : List ℕ → Standing → Outcome → Standing → Type 0) (names : List (List ℕ)) (os : List Outcome) (s s' : Standing) → Goes one names os s s' → os ≡ [] → s ≡ s'
@@ -289,24 +292,25 @@ stops_here one (n ∷ ns) [] s s' goes none = goes
 stops_here one [] (o ∷ os) s s' goes none = absurd goes
 stops_here one (n ∷ ns) (o ∷ os) s s' goes none = absurd cc
 
-module _ (query : Query) (world : World) (tests : Option Tests) where
-  pub goes_finds : (names : List (List ℕ)) (os : List Outcome) (s s' : Standing)
-      → Goes (TriedSearch query (known (Some world.files) tests)) names os s s' → IsComplete names os → NoneFailed s s' → Below query.limit s.matched
-      → (asks_some query world.files names ≡ true → tests ≡ Some world.tests) → FindsAll query world names s os s'
-  goes_finds [] [] s s' goes complete none below fits = finds_none query world s s' goes
-  goes_finds [] (o ∷ os) s s' goes complete none below fits = absurd goes
-  goes_finds (n ∷ ns) [] s s' goes complete none below fits = absurd complete
-  goes_finds (n ∷ ns) (o ∷ os) s s' goes complete none below fits =
-      let one = TriedSearch query (known (Some world.files) tests) in
+module _ (sought : Sought) (query : Query) (world : World) where
+  pub goes_finds : (names : List (List ℕ)) (os : List Outcome) (s s' : Standing) → s.files ≡ Some world.files
+      → Goes (TriedSearch sought query) names os s s' → IsComplete names os → NoneFailed s s' → Below query.limit s.matched
+      → (asks_some query world.files names ≡ true → s.tests ≡ Some world.tests) → FindsAll sought query world names s os s'
+  goes_finds [] [] s s' files goes complete none below fits = finds_none sought query world s s' goes
+  goes_finds [] (o ∷ os) s s' files goes complete none below fits = absurd goes
+  goes_finds (n ∷ ns) [] s s' files goes complete none below fits = absurd complete
+  goes_finds (n ∷ ns) (o ∷ os) s s' files goes complete none below fits =
+      let one = TriedSearch sought query in
       let t = goes.0 in
       let tried = goes.1 in
-      let here : Later s t = moves_later s o t tried.answers.moves in
+      let moves = tried.answers.moves in
+      let here : Later s t = moves_later s o t moves in
       let rest : Later t s' = goes_later one ns os t s' (λ name a p b done. moves_later a p b done.answers.moves) goes.2 in
       let gated : Bool = gated_in (get world.files n) in
       let others : Bool = list_any (λ name. gated_in (get world.files name)) ns in
-      finds_last (at_limit query.limit t.matched) query world n ns s o os t s' refl
-      (tried_finds query world tests n s o t tried (none_first s t s' rest none) below (λ is. fits (asks_head gated query.existing others is))) below complete (stops_here one ns os t s' goes.2)
-      (λ under more. goes_finds ns os t s' goes.2 more (none_second s t s' here none) under (λ is. fits (asks_rest gated query.existing others is)))
+      finds_last (at_limit query.limit t.matched) sought query world n ns s o os t s' refl
+      (tried_finds sought query world n s o t files tried (none_first s t s' rest none) below (λ is. fits (asks_head gated query.existing others is))) below complete (stops_here one ns os t s' goes.2)
+      (λ under more. goes_finds ns os t s' (moves.files ∙ files) goes.2 more (none_second s t s' here none) under (λ is. moves.tests ∙ fits (asks_rest gated query.existing others is)))
 
 -- ---- what is held back
 

@@ -6,10 +6,12 @@ use Rattle.loc_outside.specs.Outside.{AppendsPart}
 use Rattle.loc_outside.proofs.PartTaken.{part_first, part_second}
 use Rattle.locate_engine.specs.declared.outcome.Outcome.{Outcome}
 use Rattle.locate_tools.specs.Standing.{Standing, Goes, IsComplete, ends_run}
-use Rattle.loc_outside.specs.Files.{Files}
-use Rattle.loc_outside.specs.Gates.{Tests}
 use Rattle.locate_engine.specs.declared.query.Query.{Query}
-use Rattle.locate_tools.specs.Tried.{Known, Tried, known}
+use Rattle.locate_engine.specs.Sought.{Sought}
+use Rattle.locate_tools.specs.LocateExact.{work_by}
+use Rattle.locate_tools.specs.Tried.{Tried, work_for}
+use Rattle.locate_tools.specs.declared.databases.Work.{Work as WorkAsked}
+use Rattle.locate_tools.specs.Works.{Work, Search, Statistics}
 use Rattle.locate_tools.specs.Told.{TellsAs, outcome_messages, messages}
 use Rattle.locate_tools.specs.Messages.{outcome_message}
 
@@ -93,16 +95,13 @@ tells_on false false a b c u v w text more first le told next silent =
 -- ---- over the names of a run
 
 -- one more database, by its place among the names
-pub goes_next : {X : Type 0} (now : X → List ℕ) (xs : List X) (i : ℕ) (d : X) (counts : Bool) (query : Query) (f f0 : Option Files) (t t0 : Option Tests) (os : List Outcome) (s s' u : Standing) (o : Outcome) (more : List Outcome)
-    → i < length xs → length os ≡ i → f ≡ f0 → t ≡ t0 → more ≡ os ++ o ∷ [] → Goes (Tried counts query (known f0 t0)) (map now xs) os s s' → Tried counts query (known f t) (now (get_or xs i d)) s' o u
-    → Goes (Tried counts query (known f0 t0)) (map now xs) more s u
-goes_next now xs i d counts query f f0 t t0 os s s' u o more lt len same_files same_tests is goes this =
+pub goes_next : {X : Type 0} (now : X → List ℕ) (xs : List X) (i : ℕ) (d : X) (work : Work) (query : Query) (os : List Outcome) (s s' u : Standing) (o : Outcome) (more : List Outcome)
+    → i < length xs → length os ≡ i → more ≡ os ++ o ∷ [] → Goes (Tried work query) (map now xs) os s s' → Tried work query (now (get_or xs i d)) s' o u
+    → Goes (Tried work query) (map now xs) more s u
+goes_next now xs i d work query os s s' u o more lt len is goes this =
     let here : drop (length os) (map now xs) ≡ now (get_or xs i d) ∷ map now (drop (i + 1) xs) = ap (λ (k : ℕ). drop k (map now xs)) len ∙ name_at now xs i d lt in
-    let told : Tried counts query (known f0 t0) (now (get_or xs i d)) s' o u =
-    subst (λ (x : Option Files). Tried counts query (known x t0) (now (get_or xs i d)) s' o u) same_files
-    (subst (λ (x : Option Tests). Tried counts query (known f x) (now (get_or xs i d)) s' o u) same_tests this) in
-    subst (λ (l : List Outcome). Goes (Tried counts query (known f0 t0)) (map now xs) l s u) (sym is)
-    (goes_more (Tried counts query (known f0 t0)) (map now xs) os s s' u (now (get_or xs i d)) (map now (drop (i + 1) xs)) o here goes told)
+    subst (λ (l : List Outcome). Goes (Tried work query) (map now xs) l s u) (sym is)
+    (goes_more (Tried work query) (map now xs) os s s' u (now (get_or xs i d)) (map now (drop (i + 1) xs)) o here goes this)
 
 pub complete_next : {X : Type 0} (now : X → List ℕ) (xs : List X) (i : ℕ) (os : List Outcome) (o : Outcome) (more : List Outcome)
     → i < length xs → length os ≡ i → more ≡ os ++ o ∷ [] → GoOn os → ends_run o ≡ true → IsComplete (map now xs) more
@@ -132,6 +131,12 @@ pub tells_end : (failed : Bool) (a b : ℕ) (u v w : Option (List ℕ)) (text mo
 tells_end true a b u v w text more told last silent = subst (λ (x : Option (List ℕ)). AppendsPart u x (text ++ more)) (sym (silent refl)) (part_first u v text more told.1)
 tells_end false a b u v w text more told last silent = part_second u v w text more told (last refl)
 
-pub matched_next : (counts : Bool) (query : Query) (k : Known) (name : List ℕ) (s : Standing) (o : Outcome) (t : Standing) → Tried counts query k name s o t → t.matched ≤ s.matched + 2 ^ 40
-matched_next true query k name s o t tried = tried.moves.matched_within
-matched_next false query k name s o t tried = tried.answers.moves.matched_within
+-- what was done with one database, by a matcher that looks for the same as before
+pub tried_as : (statistics : Bool) (work : WorkAsked) (sought sought' : Sought) (query : Query) (name : List ℕ) (s : Standing) (o : Outcome) (t : Standing) → ((k : Sought) → work_for work k ≡ work_by statistics k) → sought' ≡ sought
+    → Tried (work_for work sought') query name s o t → Tried (work_by statistics sought) query name s o t
+tried_as statistics work sought sought' query name s o t value same tried =
+    subst (λ (k : Sought). Tried (work_by statistics k) query name s o t) same (subst (λ (w : Work). Tried w query name s o t) (value sought') tried)
+
+pub matched_next : (work : Work) (query : Query) (name : List ℕ) (s : Standing) (o : Outcome) (t : Standing) → Tried work query name s o t → t.matched ≤ s.matched + 2 ^ 40
+matched_next Statistics query name s o t tried = tried.moves.matched_within
+matched_next (Search sought) query name s o t tried = tried.answers.moves.matched_within

@@ -2,13 +2,15 @@
 use Rattle.std.proofs.Common.{◌≡◌, ℕ, ◌<◌, Bool, List, [], ◌∷◌, map, refl, sym, ap, subst, ◌∙◌}
 use Rattle.std.specs.Prelude.{IfSome}
 use Rattle.glob_match.specs.Pattern.{Wanted, wanted}
+use Rattle.locate_engine.specs.Globs.{sought_of}
+use Rattle.locate_engine.specs.Sought.{Sought}
 use Rattle.locate_engine.specs.declared.query.Query.{Query}
 use Rattle.locate_engine.specs.declared.outcome.Outcome.{Outcome}
 use Rattle.tool_words.specs.Locate.{LocateAsked}
-use Rattle.locate_tools.specs.Located.{databases_of, query_of}
+use Rattle.locate_tools.specs.LocateExact.{databases_of, query_of, work_by}
 use Rattle.locate_tools.specs.Standing.{Standing, Goes, IsComplete}
-use Rattle.locate_tools.specs.Tried.{Known, Tried}
-use Rattle.locate_tools.specs.Ran.{Concludes, LocateRan}
+use Rattle.locate_tools.specs.Tried.{Tried}
+use Rattle.locate_tools.specs.LocateRun.{Concludes, LocateRan}
 use Rattle.locate_tools.specs.declared.answer.Cause.{Cause}
 
 -- the patterns of texts, and of their bytes
@@ -27,17 +29,18 @@ pub below_query : (q r : Query) → q ≡ r → IfSome r.limit (λ limit. 0 < li
 below_query q r is below = subst (λ (x : Query). IfSome x.limit (λ limit. 0 < limit)) (sym is) below
 
 -- a run, from its parts
-pub ran_by : (asked : LocateAsked) (k : Known) (s s' t : Standing) (os items : List Outcome) (cause : Cause) (q : Query) (names : List (List ℕ))
-    → q ≡ query_of asked → names ≡ databases_of asked → os ≡ items
-    → Goes (Tried asked.statistics q k) names items s t → IsComplete names items
+pub ran_by : (asked : LocateAsked) (s s' t : Standing) (os items : List Outcome) (cause : Cause) (q : Query) (sought : Sought) (names : List (List ℕ))
+    → q ≡ query_of asked → sought ≡ sought_of q → names ≡ databases_of asked → os ≡ items
+    → Goes (Tried (work_by asked.statistics sought) q) names items s t → IsComplete names items
     → Concludes asked items t.matched t.taken s'.taken t.held_back s'.held_back t.writes_failed s'.writes_failed cause
     → s'.given ≡ t.given → s'.asks ≡ t.asks → s'.reads_failed ≡ t.reads_failed → s'.gate_failed ≡ t.gate_failed
-    → LocateRan asked k s s' os cause
-ran_by asked k s s' t os items cause q names query databases is goes complete concludes given asks reads gate =
-    subst (λ (l : List Outcome). LocateRan asked k s s' l cause) (sym is)
+    → LocateRan asked s s' os cause
+ran_by asked s s' t os items cause q sought names query what databases is goes complete concludes given asks reads gate =
+    subst (λ (l : List Outcome). LocateRan asked s s' l cause) (sym is)
     (record {
       after = t;
-      goes = subst (λ (x : Query). Goes (Tried asked.statistics x k) (databases_of asked) items s t) query (subst (λ (ns : List (List ℕ)). Goes (Tried asked.statistics q k) ns items s t) databases goes);
+      goes = subst (λ (x : Query). Goes (Tried (work_by asked.statistics (sought_of x)) x) (databases_of asked) items s t) query
+          (subst (λ (x : Sought). Goes (Tried (work_by asked.statistics x) q) (databases_of asked) items s t) what (subst (λ (ns : List (List ℕ)). Goes (Tried (work_by asked.statistics sought) q) ns items s t) databases goes));
       complete = subst (λ (ns : List (List ℕ)). IsComplete ns items) databases complete;
       concludes = concludes;
       given = given;

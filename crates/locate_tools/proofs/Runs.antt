@@ -7,26 +7,27 @@ use Rattle.std.proofs.KnownBytes.{Appends-trans}
 use Rattle.std.specs.Io.KnownBytes.{Appends}
 use Rattle.loc_outside.specs.Causes.{Rose, last_count}
 use Rattle.loc_outside.specs.Files.{Files}
-use Rattle.loc_outside.specs.Gates.{Tests}
 use Rattle.tool_words.specs.Locate.{LocateAsked}
+use Rattle.locate_engine.specs.Sought.{Sought}
 use Rattle.locate_engine.specs.declared.query.Query.{Query}
 use Rattle.locate_engine.specs.declared.outcome.Outcome.{Outcome}
 use Rattle.locate_engine.specs.declared.outcome.Outcome.TheVariants as outcomes
 use Rattle.locate_tools.specs.declared.answer.Cause.{Cause}
 use Rattle.locate_tools.specs.declared.answer.Cause.TheVariants as causes
 use Rattle.locate_tools.specs.Standing.{Standing, Goes, IsComplete}
-use Rattle.locate_tools.specs.Tried.{Known, known, Tried, TriedCount, TriedSearch, Moves, NoneFailed}
-use Rattle.locate_tools.specs.Located.{World, Locates, LocatesIn, may_ask_gate, lines_of, number_of, asks_nothing, databases_of, query_of, found, endings, cause_of}
-use Rattle.locate_tools.specs.Ran.{LocateRan, LocateRun, is_write_fault, is_read_fault, is_gate_fault}
+use Rattle.locate_tools.specs.Tried.{Tried, TriedCount, TriedSearch, Moves, NoneFailed}
+use Rattle.locate_tools.specs.Works.{Work, Search, Statistics}
+use Rattle.locate_tools.specs.LocateExact.{World, Locates, LocatesIn, may_ask_gate, lines_of, number_of, asks_nothing, databases_of, query_of, found, endings, cause_of, sought_by, work_by, work_of}
+use Rattle.locate_tools.specs.LocateRun.{LocateRan, LocateRun, is_write_fault, is_read_fault, is_gate_fault}
 use Rattle.locate_tools.specs.Counted.{CountsAll, statistics_at}
 use Rattle.locate_tools.proofs.CountingAll.{goes_gives}
 use Rattle.locate_tools.proofs.Finding.{Below, FindsAll, Later, asks_some, goes_on_out, none_first, rose_second, goes_finds, goes_later, moves_later, finds_none}
 
 -- ---- how often calls failed
 
-tried_moves : (counts : Bool) (query : Query) (k : Known) (name : List ℕ) (a : Standing) (o : Outcome) (b : Standing) → Tried counts query k name a o b → Moves a o b
-tried_moves true query k name a o b tried = tried.moves
-tried_moves false query k name a o b tried = tried.answers.moves
+tried_moves : (work : Work) (query : Query) (name : List ℕ) (a : Standing) (o : Outcome) (b : Standing) → Tried work query name a o b → Moves a o b
+tried_moves Statistics query name a o b tried = tried.moves
+tried_moves (Search sought) query name a o b tried = tried.answers.moves
 
 -- an outcome of one kind, in a count
 one_more : (b : Bool) (o : Outcome) (os : List Outcome) (s t s' : ℕ) → (b ≡ true → Rose s t) → s ≤ t → min (t + length os) last_count ≤ s' → min (s + length (if b then o ∷ os else os)) last_count ≤ s'
@@ -115,66 +116,65 @@ goes_nowhere one [] s s' none goes = goes
 goes_nowhere one (o ∷ os) s s' none goes = absurd goes
 
 -- what was found over the databases that are tried
-finds_by : (nothing : Bool) (query : Query) (world : World) (tests : Option Tests) (names : List (List ℕ)) (os : List Outcome) (s s' : Standing)
+finds_by : (nothing : Bool) (sought : Sought) (query : Query) (world : World) (names : List (List ℕ)) (os : List Outcome) (s s' : Standing) → s.files ≡ Some world.files
     → (nothing ≡ false → Below query.limit s.matched)
-    → Goes (TriedSearch query (known (Some world.files) tests)) (if nothing then [] else names) os s s' → IsComplete (if nothing then [] else names) os → NoneFailed s s'
-    → (asks_some query world.files (if nothing then [] else names) ≡ true → tests ≡ Some world.tests)
-    → FindsAll query world (if nothing then [] else names) s os s'
-finds_by true query world tests names os s s' below goes complete none fits =
+    → Goes (TriedSearch sought query) (if nothing then [] else names) os s s' → IsComplete (if nothing then [] else names) os → NoneFailed s s'
+    → (asks_some query world.files (if nothing then [] else names) ≡ true → s.tests ≡ Some world.tests)
+    → FindsAll sought query world (if nothing then [] else names) s os s'
+finds_by true sought query world names os s s' files below goes complete none fits =
     let empty = no_outcome os complete in
-    subst (λ (x : List Outcome). FindsAll query world [] s x s') (sym empty) (finds_none query world s s' (goes_nowhere (TriedSearch query (known (Some world.files) tests)) os s s' empty goes))
-finds_by false query world tests names os s s' below goes complete none fits = goes_finds query world tests names os s s' goes complete none (below refl) fits
+    subst (λ (x : List Outcome). FindsAll sought query world [] s x s') (sym empty) (finds_none sought query world s s' (goes_nowhere (TriedSearch sought query) os s s' empty goes))
+finds_by false sought query world names os s s' files below goes complete none fits = goes_finds sought query world names os s s' files goes complete none (below refl) fits
 
 -- exactly what the world says was printed and answered
-exact_of : (asked : LocateAsked) (world : World) (tests : Option Tests) (s s' : Standing) (os : List Outcome) (cause : Cause) → s.matched ≡ 0 → asked.statistics ≡ false → (IsTrue (may_ask_gate asked world.files (databases_of asked)) → tests ≡ Some world.tests)
-    → LocateRan asked (known (Some world.files) tests) s s' os cause → NoneFailed s s' → Locates asked world s.taken s'.taken os cause
-exact_of asked world tests s s' os cause zero stat fits r none =
+exact_of : (asked : LocateAsked) (world : World) (s s' : Standing) (os : List Outcome) (cause : Cause) → s.matched ≡ 0 → asked.statistics ≡ false → s.files ≡ Some world.files → (IsTrue (may_ask_gate asked world.files (databases_of asked)) → s.tests ≡ Some world.tests)
+    → LocateRan asked s s' os cause → NoneFailed s s' → Locates asked world s.taken s'.taken os cause
+exact_of asked world s s' os cause zero stat files fits r none =
     let q = query_of asked in
-    let k = known (Some world.files) tests in
+    let sought = sought_by asked in
     let rest : Later r.after s' = record { reads = omega (arith, r.reads_failed); gate = omega (arith, r.gate_failed); writes = r.concludes.later } in
     let before : NoneFailed s r.after = none_first s r.after s' rest none in
-    let first : Later s r.after = goes_later (Tried asked.statistics q k) (databases_of asked) os s r.after (λ name a o b t. moves_later a o b (tried_moves asked.statistics q k name a o b t)) r.goes in
+    let first : Later s r.after = goes_later (Tried (work_of asked) q) (databases_of asked) os s r.after (λ name a o b t. moves_later a o b (tried_moves (work_of asked) q name a o b t)) r.goes in
     let names : databases_of asked ≡ (if asks_nothing asked.limit then [] else asked.databases) = ap (λ (b : Bool). if not b && asks_nothing asked.limit then [] else asked.databases) stat in
-    let goes : Goes (TriedSearch q k) (if asks_nothing asked.limit then [] else asked.databases) os s r.after =
-    subst (λ (b : Bool). Goes (Tried b q k) (if not b && asks_nothing asked.limit then [] else asked.databases) os s r.after) stat r.goes in
+    let goes : Goes (TriedSearch sought q) (if asks_nothing asked.limit then [] else asked.databases) os s r.after =
+    subst (λ (b : Bool). Goes (Tried (work_by b sought) q) (if not b && asks_nothing asked.limit then [] else asked.databases) os s r.after) stat r.goes in
     let complete : IsComplete (if asks_nothing asked.limit then [] else asked.databases) os = subst (λ (l : List (List ℕ)). IsComplete l os) names r.complete in
-    let finds = finds_by (asks_nothing asked.limit) q world tests asked.databases os s r.after (λ e. subst (λ (m : ℕ). Below asked.limit m) (sym zero) (asked_below asked.limit e)) goes complete before
-    (subst (λ (l : List (List ℕ)). asks_some q world.files l ≡ true → tests ≡ Some world.tests) names fits) in
+    let finds = finds_by (asks_nothing asked.limit) sought q world asked.databases os s r.after files (λ e. subst (λ (m : ℕ). Below asked.limit m) (sym zero) (asked_below asked.limit e)) goes complete before
+    (subst (λ (l : List (List ℕ)). asks_some q world.files l ≡ true → s.tests ≡ Some world.tests) names fits) in
     let unwritten : list_any is_write_fault os ≡ false =
     some_or_none (list_any is_write_fault os) (list_any is_write_fault os ≡ false)
-    (λ e. absurd (before.2 (writes_rose (TriedSearch q k) _ os s r.after (λ name a o b t. t.answers.moves) goes e))) (λ e. e) in
+    (λ e. absurd (before.2 (writes_rose (TriedSearch sought q) _ os s r.after (λ name a o b t. t.answers.moves) goes e))) (λ e. e) in
     let ended = r.concludes.writes unwritten (λ e. let broke = r.concludes.breaks unwritten e in none.2 (rose_second s.writes_failed r.after.writes_failed s'.writes_failed first.writes broke.1.0)) in
-    let counts : r.after.matched ≡ 0 + length (found q world 0 (if asks_nothing asked.limit then [] else asked.databases)) =
-    subst (λ (m : ℕ). r.after.matched ≡ m + length (found q world m (if asks_nothing asked.limit then [] else asked.databases))) zero finds.counts in
-    let count : r.after.matched ≡ length (found q world 0 (if asks_nothing asked.limit then [] else asked.databases)) = omega (arith, counts) in
-    let lines : Appends s.taken r.after.taken (lines_of q (found q world 0 (if asks_nothing asked.limit then [] else asked.databases))) =
-    subst (λ (m : ℕ). Appends s.taken r.after.taken (lines_of q (found q world m (if asks_nothing asked.limit then [] else asked.databases)))) zero finds.prints in
+    let counts : r.after.matched ≡ 0 + length (found sought q world 0 (if asks_nothing asked.limit then [] else asked.databases)) =
+    subst (λ (m : ℕ). r.after.matched ≡ m + length (found sought q world m (if asks_nothing asked.limit then [] else asked.databases))) zero finds.counts in
+    let count : r.after.matched ≡ length (found sought q world 0 (if asks_nothing asked.limit then [] else asked.databases)) = omega (arith, counts) in
+    let lines : Appends s.taken r.after.taken (lines_of q (found sought q world 0 (if asks_nothing asked.limit then [] else asked.databases))) =
+    subst (λ (m : ℕ). Appends s.taken r.after.taken (lines_of q (found sought q world m (if asks_nothing asked.limit then [] else asked.databases)))) zero finds.prints in
     let number : Appends r.after.taken s'.taken (number_of q r.after.matched) =
     subst (λ (b : Bool). Appends r.after.taken s'.taken (if (if b then false else asked.count_only) then decimal r.after.matched ++ 10 ∷ [] else [])) stat ended.1 in
     let why : cause ≡ cause_of asked.limit r.after.matched = ended.0 ∙ ap (λ (b : Bool). if b then causes.Done else cause_of asked.limit r.after.matched) stat in
     subst (λ (l : List (List ℕ)). LocatesIn asked world l s.taken s'.taken os cause) (sym names)
     (record {
-      prints = subst (λ (m : ℕ). Appends s.taken s'.taken (lines_of q (found q world 0 (if asks_nothing asked.limit then [] else asked.databases)) ++ number_of q m)) count (Appends-trans s.taken r.after.taken s'.taken _ _ lines number);
-      ends = finds.ends ∙ ap (λ (m : ℕ). endings q world m (if asks_nothing asked.limit then [] else asked.databases)) zero;
+      prints = subst (λ (m : ℕ). Appends s.taken s'.taken (lines_of q (found sought q world 0 (if asks_nothing asked.limit then [] else asked.databases)) ++ number_of q m)) count (Appends-trans s.taken r.after.taken s'.taken _ _ lines number);
+      ends = finds.ends ∙ ap (λ (m : ℕ). endings sought q world m (if asks_nothing asked.limit then [] else asked.databases)) zero;
       answer = why ∙ ap (cause_of asked.limit) count;
     })
 
 -- exactly the statistics of the world were written
-counted_of : (asked : LocateAsked) (files : Files) (tests : Option Tests) (s s' : Standing) (os : List Outcome) (cause : Cause) → asked.statistics ≡ true
-    → LocateRan asked (known (Some files) tests) s s' os cause → NoneFailed s s' → CountsAll asked files s.taken s'.taken os cause
-counted_of asked files tests s s' os cause stat r none =
+counted_of : (asked : LocateAsked) (files : Files) (s s' : Standing) (os : List Outcome) (cause : Cause) → asked.statistics ≡ true → s.files ≡ Some files
+    → LocateRan asked s s' os cause → NoneFailed s s' → CountsAll asked files s.taken s'.taken os cause
+counted_of asked files s s' os cause stat told r none =
     let q = query_of asked in
-    let k = known (Some files) tests in
     let rest : Later r.after s' = record { reads = omega (arith, r.reads_failed); gate = omega (arith, r.gate_failed); writes = r.concludes.later } in
     let before : NoneFailed s r.after = none_first s r.after s' rest none in
-    let first : Later s r.after = goes_later (Tried asked.statistics q k) (databases_of asked) os s r.after (λ name a o b t. moves_later a o b (tried_moves asked.statistics q k name a o b t)) r.goes in
+    let first : Later s r.after = goes_later (Tried (work_of asked) q) (databases_of asked) os s r.after (λ name a o b t. moves_later a o b (tried_moves (work_of asked) q name a o b t)) r.goes in
     let names : databases_of asked ≡ asked.databases = ap (λ (b : Bool). if not b && asks_nothing asked.limit then [] else asked.databases) stat in
-    let goes : Goes (TriedCount k.files) asked.databases os s r.after = subst (λ (b : Bool). Goes (Tried b q k) (if not b && asks_nothing asked.limit then [] else asked.databases) os s r.after) stat r.goes in
+    let goes : Goes TriedCount asked.databases os s r.after = subst (λ (b : Bool). Goes (Tried (work_by b (sought_by asked)) q) (if not b && asks_nothing asked.limit then [] else asked.databases) os s r.after) stat r.goes in
     let complete : IsComplete asked.databases os = subst (λ (l : List (List ℕ)). IsComplete l os) names r.complete in
-    let gives = goes_gives files asked.databases os s r.after goes complete before in
+    let gives = goes_gives files asked.databases os s r.after told goes complete before in
     let unwritten : list_any is_write_fault os ≡ false =
     some_or_none (list_any is_write_fault os) (list_any is_write_fault os ≡ false)
-    (λ e. absurd (before.2 (writes_rose (TriedCount k.files) _ os s r.after (λ name a o b t. t.moves) goes e))) (λ e. e) in
+    (λ e. absurd (before.2 (writes_rose TriedCount _ os s r.after (λ name a o b t. t.moves) goes e))) (λ e. e) in
     let ended = r.concludes.writes unwritten (λ e. let broke = r.concludes.breaks unwritten e in none.2 (rose_second s.writes_failed r.after.writes_failed s'.writes_failed first.writes broke.1.0)) in
     let nothing : Appends r.after.taken s'.taken [] =
     subst (λ (b : Bool). Appends r.after.taken s'.taken (if (if b then false else asked.count_only) then decimal r.after.matched ++ 10 ∷ [] else [])) stat ended.1 in
@@ -187,8 +187,8 @@ counted_of asked files tests s s' os cause stat r none =
 
 -- ---- the whole contract
 
-pub run_nothing : (asked : LocateAsked) (k : Known) (s : Standing) → LocateRun asked k s s [] causes.OutOfMemory
-run_nothing asked k s = record {
+pub run_nothing : (asked : LocateAsked) (s : Standing) → LocateRun asked s s [] causes.OutOfMemory
+run_nothing asked s = record {
   no_memory = λ e. refl;
   ran = λ other. absurd (other refl);
   exact = λ other. absurd (other refl);
@@ -201,20 +201,20 @@ run_nothing asked k s = record {
   passed_on = λ none out. out;
 }
 
-pub run_done : (asked : LocateAsked) (k : Known) (s s' : Standing) (os : List Outcome) (cause : Cause) → s.matched ≡ 0 → (cause ≡ causes.OutOfMemory → ⊥) → LocateRan asked k s s' os cause → LocateRun asked k s s' os cause
-run_done asked k s s' os cause zero other r =
-    let one = Tried asked.statistics (query_of asked) k in
-    let reads = reads_counted one (databases_of asked) os s r.after (tried_moves asked.statistics (query_of asked) k) r.goes in
-    let gates = gates_counted one (databases_of asked) os s r.after (tried_moves asked.statistics (query_of asked) k) r.goes in
-    let first : Later s r.after = goes_later one (databases_of asked) os s r.after (λ name a o b t. moves_later a o b (tried_moves asked.statistics (query_of asked) k name a o b t)) r.goes in
+pub run_done : (asked : LocateAsked) (s s' : Standing) (os : List Outcome) (cause : Cause) → s.matched ≡ 0 → (cause ≡ causes.OutOfMemory → ⊥) → LocateRan asked s s' os cause → LocateRun asked s s' os cause
+run_done asked s s' os cause zero other r =
+    let one = Tried (work_of asked) (query_of asked) in
+    let reads = reads_counted one (databases_of asked) os s r.after (tried_moves (work_of asked) (query_of asked)) r.goes in
+    let gates = gates_counted one (databases_of asked) os s r.after (tried_moves (work_of asked) (query_of asked)) r.goes in
+    let first : Later s r.after = goes_later one (databases_of asked) os s r.after (λ name a o b t. moves_later a o b (tried_moves (work_of asked) (query_of asked) name a o b t)) r.goes in
     let wrote : cause ≡ causes.WriteFault → Rose s.writes_failed s'.writes_failed = λ e. some_or_none (list_any is_write_fault os) (Rose s.writes_failed s'.writes_failed)
-    (λ some. let rose = writes_rose one (databases_of asked) os s r.after (tried_moves asked.statistics (query_of asked) k) r.goes some in let late = r.concludes.later in omega (arith, rose, late))
+    (λ some. let rose = writes_rose one (databases_of asked) os s r.after (tried_moves (work_of asked) (query_of asked)) r.goes some in let late = r.concludes.later in omega (arith, rose, late))
     (λ nowhere. let broke = r.concludes.breaks nowhere e in rose_second s.writes_failed r.after.writes_failed s'.writes_failed first.writes broke.1.0) in
     record {
       no_memory = λ e. absurd (other e);
       ran = λ o. r;
-      exact = λ o stat world files fits none. exact_of asked world k.tests s s' os cause zero stat fits (subst (λ (f : Option Files). LocateRan asked (known f k.tests) s s' os cause) files r) none;
-      counted = λ o stat files told none. counted_of asked files k.tests s s' os cause stat (subst (λ (f : Option Files). LocateRan asked (known f k.tests) s s' os cause) told r) none;
+      exact = λ o stat world files fits none. exact_of asked world s s' os cause zero stat files fits r none;
+      counted = λ o stat files told none. counted_of asked files s s' os cause stat told r none;
       read_faults = omega (arith, reads, r.reads_failed);
       gate_faults = omega (arith, gates, r.gate_failed);
       write_fault = wrote;
@@ -222,5 +222,5 @@ run_done asked k s s' os cause zero other r =
       number_only = λ e nowhere. (r.concludes.breaks nowhere e).0;
       passed_on = λ none out. r.concludes.passed_on (λ e. none (wrote e)) (some_or_none (list_any is_write_fault os) (r.after.held_back ≡ 0)
           (λ some. absurd (none (wrote (r.concludes.stops some).0)))
-          (λ nowhere. goes_on_out one (databases_of asked) os s r.after (tried_moves asked.statistics (query_of asked) k) r.goes nowhere out));
+          (λ nowhere. goes_on_out one (databases_of asked) os s r.after (tried_moves (work_of asked) (query_of asked)) r.goes nowhere out));
     }

@@ -16,7 +16,7 @@ use Rattle.tool_words.specs.declared.tool.Tool.TheVariants as tools
 use Rattle.locate_tools.specs.declared.answer.Cause.{Cause}
 use Rattle.locate_tools.specs.declared.answer.Cause.TheVariants as causes
 use Rattle.locate_tools.specs.Calls.{CallMade, built, request_of, subject_of, tool_called, update_subject}
-use Rattle.locate_tools.specs.Located.{databases_of}
+use Rattle.locate_tools.specs.LocateExact.{databases_of}
 use Rattle.locate_tools.specs.Messages.{cause_message}
 use Rattle.locate_tools.specs.Told.{messages, messages_of, told}
 

@@ -14,7 +14,7 @@ use Rattle.database_update.specs.declared.fault.UpdateFault.TheVariants as fault
 use Rattle.database_update.proofs.UpdateLemmas.{begins_none, exceeded_none, failures_none, found_none, left_none}
 use Rattle.locate_tools.specs.declared.answer.Cause.{Cause}
 use Rattle.locate_tools.specs.declared.answer.Cause.TheVariants as causes
-use Rattle.locate_tools.specs.Updates.{UpdatedbRun, same_in}
+use Rattle.locate_tools.specs.UpdatedbRun.{UpdatedbRun, same_in}
 
 -- ---- what is just as it was, in other words
 

@@ -8,7 +8,7 @@ use Rattle.any_db.specs.Formats.{contents}
 use Rattle.tool_words.specs.Locate.{LocateAsked}
 use Rattle.locate_engine.specs.Statistics.{stats_after, stats_of}
 use Rattle.locate_engine.specs.declared.outcome.Outcome.{Outcome}
-use Rattle.locate_tools.specs.Located.{ending_in}
+use Rattle.locate_tools.specs.LocateExact.{ending_in}
 use Rattle.locate_tools.specs.Tried.{text_after}
 use Rattle.locate_tools.specs.declared.answer.Cause.{Cause}
 use Rattle.locate_tools.specs.declared.answer.Cause.TheVariants as causes

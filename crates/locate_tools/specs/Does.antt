@@ -12,21 +12,27 @@ use Rattle.locate_tools.specs.declared.answer.Cause.{Cause}
 use Rattle.locate_tools.specs.declared.answer.Cause.TheVariants as causes
 use Rattle.locate_tools.specs.declared.answer.Ending.{Ending}
 use Rattle.locate_tools.specs.Calls.{CallMade, request_of, tool_called}
-use Rattle.locate_tools.specs.Located.{databases_of}
-use Rattle.locate_tools.specs.Ran.{LocateRun}
-use Rattle.locate_tools.specs.Standing.{Standing, standing}
+use Rattle.locate_tools.specs.LocateExact.{databases_of}
+use Rattle.locate_tools.specs.LocateRun.{LocateRun}
+use Rattle.locate_tools.specs.Standing.{Standing}
 use Rattle.locate_tools.specs.Statuses.{status_of}
 use Rattle.locate_tools.specs.Told.{told}
-use Rattle.locate_tools.specs.Tried.{Known, known}
-use Rattle.locate_tools.specs.Updates.{UpdatedbRun, around_in}
+use Rattle.locate_tools.specs.UpdatedbRun.{UpdatedbRun, around_in}
 
--- ---- the parts of a snapshot that `locate` sees, in which no path is counted
-
-abbrev pub known_in : Snapshot → Known
-known_in o = known o.files o.tests
-
+-- the parts of a snapshot that `locate` sees, in which no path is counted
 abbrev pub standing_in : Snapshot → Standing
-standing_in o = standing o.given o.asks 0 o.held_back o.taken o.reads_failed o.gate_failed o.writes_failed
+standing_in o = record {
+  files = o.files;
+  given = o.given;
+  reads_failed = o.reads_failed;
+  tests = o.tests;
+  asks = o.asks;
+  gate_failed = o.gate_failed;
+  taken = o.taken;
+  held_back = o.held_back;
+  writes_failed = o.writes_failed;
+  matched = 0;
+}
 
 -- ---- by what the words ask for
 
@@ -37,7 +43,7 @@ pub record Refuses (ending : Ending) : Type 0 where
 
 -- They ask for a search of databases, or for their statistics.
 pub record RunsLocate (asked : LocateAsked) (before : Snapshot) (ending : Ending) (after : Snapshot) : Type 0 where
-  pub run : LocateRun asked (known_in before) (standing_in before) (standing_in after) ending.outcomes ending.cause
+  pub run : LocateRun asked (standing_in before) (standing_in after) ending.outcomes ending.cause
   pub accepted : ending.cause ≡ causes.Usage → ⊥
 
 -- They ask for a database of a tree.

@@ -4,9 +4,10 @@ pub mod Messages
 pub mod Told
 pub mod Statuses
 pub mod Standing
-pub mod Located
+pub mod LocateExact
+pub mod Works
 pub mod Tried
 pub mod Counted
-pub mod Ran
-pub mod Updates
+pub mod LocateRun
+pub mod UpdatedbRun
 pub mod Tasks

@@ -1,31 +1,39 @@
 -- Databases that are tried one after another.
 use Rattle.std.specs.Prelude.{◌≡◌, ℕ, Bool, true, false, List, [], ◌∷◌, Option, MatchBool, ⊤}
+use Rattle.loc_outside.specs.Files.{Files}
+use Rattle.loc_outside.specs.Gates.{Tests}
+use Rattle.locate_engine.specs.Sight.{Sight}
 use Rattle.locate_engine.specs.declared.outcome.Outcome.{Outcome}
 use Rattle.locate_engine.specs.declared.outcome.Outcome.TheVariants as outcomes
 
--- Where a run stands: how many bytes its reader has given, how often its gate was asked, how many paths were found, what
--- standard output has taken and how much of that it holds back, and how often the reader, the gate and standard output
--- have failed.
+-- Where a run of `locate` stands: of its reader the files, how many bytes it has given and how often it has failed; of its
+-- gate its tests, how often it was asked and has failed; of standard output the bytes taken, how many of them it holds back
+-- and how often it has failed; and how many paths were found. What is optional is known only where the object tells it.
 pub record Standing : Type 0 where
+  pub files : Option Files
   pub given : ℕ
-  pub asks : ℕ
-  pub matched : ℕ
-  pub held_back : ℕ
-  pub taken : Option (List ℕ)
   pub reads_failed : ℕ
+  pub tests : Option Tests
+  pub asks : ℕ
   pub gate_failed : ℕ
+  pub taken : Option (List ℕ)
+  pub held_back : ℕ
   pub writes_failed : ℕ
+  pub matched : ℕ
 
-abbrev pub standing : ℕ → ℕ → ℕ → ℕ → Option (List ℕ) → ℕ → ℕ → ℕ → Standing
-standing given asks matched held_back taken reads_failed gate_failed writes_failed = record {
-  given = given;
-  asks = asks;
-  matched = matched;
-  held_back = held_back;
-  taken = taken;
-  reads_failed = reads_failed;
-  gate_failed = gate_failed;
-  writes_failed = writes_failed;
+-- what a search sees of that, which counts no steps
+abbrev pub sight_in : Standing → Sight
+sight_in s = record {
+  files = s.files;
+  given = s.given;
+  reads_failed = s.reads_failed;
+  tests = s.tests;
+  asks = s.asks;
+  gate_failed = s.gate_failed;
+  taken = s.taken;
+  writes_failed = s.writes_failed;
+  matched = s.matched;
+  steps = 0;
 }
 
 -- after an outcome like this no further database is tried

@@ -6,7 +6,7 @@ use Rattle.loc_outside.specs.Outside.{AppendsPart}
 use Rattle.locate_engine.specs.declared.outcome.Outcome.{Outcome}
 use Rattle.tool_words.specs.Asked.{Asked, Updatedb, Locate, Convert, Exercise}
 use Rattle.locate_tools.specs.Calls.{CallMade, request_of, speaker_of, subject_of}
-use Rattle.locate_tools.specs.Located.{databases_of}
+use Rattle.locate_tools.specs.LocateExact.{databases_of}
 use Rattle.locate_tools.specs.Messages.{outcome_message, cause_message}
 use Rattle.locate_tools.specs.declared.answer.Cause.{Cause}
 

@@ -4,21 +4,22 @@ ghost use Rattle.std.specs.List.{list_any};
 ghost use Rattle.std.specs.Io.KnownBytes.{Appends};
 ghost use Rattle.loc_outside.specs.Causes.{HasCause};
 ghost use Rattle.loc_outside.specs.Outside.{AppendsPart};
+ghost use Rattle.locate_engine.specs.Sought.{Sought};
 ghost use Rattle.glob_match.specs.Pattern.{wanted as pattern_wanted};
 ghost use Rattle.tool_words.specs.LocateSeen.{seen};
-ghost use Rattle.locate_tools.specs.Located.{databases_of as databases_asked, query_of as query_asked};
-ghost use Rattle.locate_tools.specs.Ran.{Concludes, LocateRun, cause_after as cause_by, is_write_fault};
-ghost use Rattle.locate_tools.specs.Standing.{Goes, IsComplete, standing};
-ghost use Rattle.locate_tools.specs.Tried.{Tried, known};
+ghost use Rattle.locate_tools.specs.LocateExact.{databases_of as databases_asked, query_of as query_asked, work_by};
+ghost use Rattle.locate_tools.specs.LocateRun.{Concludes, LocateRun, cause_after as cause_by, is_write_fault};
+ghost use Rattle.locate_tools.specs.Standing.{Goes, IsComplete};
+ghost use Rattle.locate_tools.specs.Tried.{Tried, work_for};
 ghost use Rattle.locate_tools.specs.Told.{TellsAs, messages};
 
 use crate::answer::{Cause, Outcomes};
-use crate::databases::{ends_run, try_database};
+use crate::databases::{Work, ends_run, try_database};
 use crate::statistics_text::put_number;
 use crate::telling::tell_after;
 use glob_match::{Glob, Steps};
 use loc_outside::{BufferedSink, Failed, Gate, Reader, Sink};
-use locate_engine::{Globs, Outcome, Query, Tally};
+use locate_engine::{GlobMatcher, Globs, Matcher, Outcome, Query, Tally};
 use std::alloc::{AllocError, Global};
 use std::sync::ledger::{Blank, Ledger};
 use tool_words::LocateSettings;
@@ -51,11 +52,25 @@ fn query_of(alloc: Global, asked: &LocateSettings<'_>) -> Result<Query, AllocErr
     })
 }
 
+/// What is done with each database.
+fn work_of(statistics: bool) -> Work
+    ensures value { (sought : Sought) → work_for result sought ≡ work_by statistics sought }
+    ensures search { result ≡ Work.Search → statistics ≡ false }
+    ensures searches { statistics ≡ false → result ≡ Work.Search }
+{
+    if statistics {
+        Work::Statistics
+    } else {
+        Work::Search
+    }
+}
+
 /// Tries the databases in their order, and tells of each how it ended, unless that is not asked for. After a database in
 /// which the limit is reached or a write fails no other is tried. Answers whether a write to `err` has failed; after that
 /// nothing more is written there.
-fn try_databases<R: Reader, G: Gate, P: BufferedSink, E: Sink, L: Ledger>(
+fn try_databases<M: Matcher, R: Reader, G: Gate, P: BufferedSink, E: Sink, L: Ledger>(
     asked: &LocateSettings<'_>,
+    matcher: &mut M,
     query: &Query,
     names: &[&str],
     reader: &mut R,
@@ -71,9 +86,31 @@ fn try_databases<R: Reader, G: Gate, P: BufferedSink, E: Sink, L: Ledger>(
     requires few { length names.now ≤ 4096 }
     requires room { tally.old.matched ≤ 2 ^ 60 }
     requires below { asked.now.statistics ≡ false → 0 < length names.now → IfSome query.now.limit (λ limit. tally.old.matched < limit) }
-    ensures goes { Goes (Tried asked.now.statistics query.now (known (R.files reader.old) (G.tests gate.old))) (map (λ t. t.now) names.now) outcomes.new.items
-        (standing (R.given reader.old) (G.asks gate.old) tally.old.matched (P.held_back out.old) (P.taken out.old) (R.faults reader.old) (G.faults gate.old) (P.faults out.old))
-        (standing (R.given reader.new) (G.asks gate.new) tally.new.matched (P.held_back out.new) (P.taken out.new) (R.faults reader.new) (G.faults gate.new) (P.faults out.new)) }
+    ensures goes { Goes (Tried (work_by asked.now.statistics (M.sought matcher.old)) query.now) (map (λ t. t.now) names.now) outcomes.new.items
+        (record {
+          files = R.files reader.old;
+          given = R.given reader.old;
+          reads_failed = R.faults reader.old;
+          tests = G.tests gate.old;
+          asks = G.asks gate.old;
+          gate_failed = G.faults gate.old;
+          taken = P.taken out.old;
+          held_back = P.held_back out.old;
+          writes_failed = P.faults out.old;
+          matched = tally.old.matched;
+        })
+        (record {
+          files = R.files reader.new;
+          given = R.given reader.new;
+          reads_failed = R.faults reader.new;
+          tests = G.tests gate.new;
+          asks = G.asks gate.new;
+          gate_failed = G.faults gate.new;
+          taken = P.taken out.new;
+          held_back = P.held_back out.new;
+          writes_failed = P.faults out.new;
+          matched = tally.new.matched;
+        }) }
     ensures complete { IsComplete (map (λ t. t.now) names.now) outcomes.new.items }
     ensures none { names.now ≡ [] → (reader.new ≡ reader.old) × (gate.new ≡ gate.old) }
     ensures told { TellsAs result (E.faults err.old) (E.faults err.new) (E.taken err.old) (E.taken err.new) (messages asked.now.quiet (map (λ t. t.now) names.now) outcomes.new.items) }
@@ -84,18 +121,10 @@ fn try_databases<R: Reader, G: Gate, P: BufferedSink, E: Sink, L: Ledger>(
     ensures err_kept { E.kept err.old err.new }
     ensures err_later { E.faults err.old ≤ E.faults err.new }
 {
+    let work = work_of(asked.statistics);
     let mut silent = false;
     for name in names {
-        let outcome = try_database(
-            asked.statistics,
-            query,
-            name,
-            reader,
-            gate,
-            out,
-            tally,
-            steps,
-        );
+        let outcome = try_database(work, matcher, query, name, reader, gate, out, tally, steps);
         outcomes.push_reserved(outcome);
         silent = tell_after(err, asked.quiet, silent, name, outcome);
         if ends_run(outcome) {
@@ -207,9 +236,31 @@ pub fn locate<R: Reader, G: Gate, P: BufferedSink, E: Sink, L: Ledger>(
     requires blank_parts { blank.parts ≡ L.parts }
     requires has_part { 0 < L.parts }
     ensures no_memory { result.cause ≡ Cause.OutOfMemory → (result.outcomes ≡ []) × (reader.new ≡ reader.old) × (gate.new ≡ gate.old) × (out.new ≡ out.old) × (err.new ≡ err.old) }
-    ensures run { LocateRun (seen asked.now) (known (R.files reader.old) (G.tests gate.old))
-        (standing (R.given reader.old) (G.asks gate.old) 0 (P.held_back out.old) (P.taken out.old) (R.faults reader.old) (G.faults gate.old) (P.faults out.old))
-        (standing (R.given reader.new) (G.asks gate.new) 0 (P.held_back out.new) (P.taken out.new) (R.faults reader.new) (G.faults gate.new) (P.faults out.new))
+    ensures run { LocateRun (seen asked.now)
+        (record {
+          files = R.files reader.old;
+          given = R.given reader.old;
+          reads_failed = R.faults reader.old;
+          tests = G.tests gate.old;
+          asks = G.asks gate.old;
+          gate_failed = G.faults gate.old;
+          taken = P.taken out.old;
+          held_back = P.held_back out.old;
+          writes_failed = P.faults out.old;
+          matched = 0;
+        })
+        (record {
+          files = R.files reader.new;
+          given = R.given reader.new;
+          reads_failed = R.faults reader.new;
+          tests = G.tests gate.new;
+          asks = G.asks gate.new;
+          gate_failed = G.faults gate.new;
+          taken = P.taken out.new;
+          held_back = P.held_back out.new;
+          writes_failed = P.faults out.new;
+          matched = 0;
+        })
         result.outcomes result.cause }
     ensures none { databases_asked (seen asked.now) ≡ [] → (reader.new ≡ reader.old) × (gate.new ≡ gate.old) }
     ensures told { TellsAs result.silent (E.faults err.old) (E.faults err.new) (E.taken err.old) (E.taken err.new) (messages asked.now.quiet (databases_asked (seen asked.now)) result.outcomes) }
@@ -230,8 +281,10 @@ pub fn locate<R: Reader, G: Gate, P: BufferedSink, E: Sink, L: Ledger>(
     };
     let mut tally = Tally { matched: 0 };
     let mut steps = Steps::<L>::new(blank);
+    let mut matcher = GlobMatcher::new(&query);
     let silent = try_databases(
         asked,
+        &mut matcher,
         &query,
         names,
         reader,

@@ -8,14 +8,12 @@ ghost use Rattle.tool_words.specs.UpdatedbSeen.{seen as updatedb_seen};
 ghost use Rattle.tool_words.specs.Tools.{speaker as speaker_of_tool};
 ghost use Rattle.locate_tools.specs.Calls.{request_of, update_subject as subject_of_update};
 ghost use Rattle.locate_tools.specs.Does.{Does, Leaves};
-ghost use Rattle.locate_tools.specs.Located.{databases_of};
+ghost use Rattle.locate_tools.specs.LocateExact.{databases_of};
 ghost use Rattle.locate_tools.specs.Messages.{cause_message};
-ghost use Rattle.locate_tools.specs.Ran.{LocateRun};
-ghost use Rattle.locate_tools.specs.Standing.{standing};
+ghost use Rattle.locate_tools.specs.LocateRun.{LocateRun};
 ghost use Rattle.locate_tools.specs.Statuses.{status_of};
 ghost use Rattle.locate_tools.specs.Told.{messages};
-ghost use Rattle.locate_tools.specs.Tried.{known};
-ghost use Rattle.locate_tools.specs.Updates.{UpdatedbRun};
+ghost use Rattle.locate_tools.specs.UpdatedbRun.{UpdatedbRun};
 
 use crate::answer::{Cause, Ending, Outcomes};
 use crate::call::Call;
@@ -68,9 +66,31 @@ fn run_locate<R: Reader, G: Gate, P: BufferedSink, E: Sink>(
     ensures usage { result.cause ≡ Cause.Usage → ⊥ }
     ensures none { databases_of (locate_seen asked.now) ≡ [] → (reader.new ≡ reader.old) × (gate.new ≡ gate.old) }
     ensures unopened { result.cause ≡ Cause.OutOfMemory → (reader.new ≡ reader.old) × (gate.new ≡ gate.old) × (out.new ≡ out.old) }
-    ensures run { LocateRun (locate_seen asked.now) (known (R.files reader.old) (G.tests gate.old))
-        (standing (R.given reader.old) (G.asks gate.old) 0 (P.held_back out.old) (P.taken out.old) (R.faults reader.old) (G.faults gate.old) (P.faults out.old))
-        (standing (R.given reader.new) (G.asks gate.new) 0 (P.held_back out.new) (P.taken out.new) (R.faults reader.new) (G.faults gate.new) (P.faults out.new))
+    ensures run { LocateRun (locate_seen asked.now)
+        (record {
+          files = R.files reader.old;
+          given = R.given reader.old;
+          reads_failed = R.faults reader.old;
+          tests = G.tests gate.old;
+          asks = G.asks gate.old;
+          gate_failed = G.faults gate.old;
+          taken = P.taken out.old;
+          held_back = P.held_back out.old;
+          writes_failed = P.faults out.old;
+          matched = 0;
+        })
+        (record {
+          files = R.files reader.new;
+          given = R.given reader.new;
+          reads_failed = R.faults reader.new;
+          tests = G.tests gate.new;
+          asks = G.asks gate.new;
+          gate_failed = G.faults gate.new;
+          taken = P.taken out.new;
+          held_back = P.held_back out.new;
+          writes_failed = P.faults out.new;
+          matched = 0;
+        })
         result.outcomes result.cause }
     ensures told { (Rose (E.faults err.old) (E.faults err.new) → ⊥) → Appends (E.taken err.old) (E.taken err.new) (messages asked.now.quiet (databases_of (locate_seen asked.now)) result.outcomes ++ cause_message (speaker_of_tool (Some Tool.Locate)) [] result.cause) }
     ensures told_part { AppendsPart (E.taken err.old) (E.taken err.new) (messages asked.now.quiet (databases_of (locate_seen asked.now)) result.outcomes ++ cause_message (speaker_of_tool (Some Tool.Locate)) [] result.cause) }

@@ -1,7 +1,7 @@
 //! The run of `updatedb`.
 ghost use Rattle.std.specs.Prelude.{◌≡◌};
 ghost use Rattle.tool_words.specs.UpdatedbSeen.{seen};
-ghost use Rattle.locate_tools.specs.Updates.{UpdatedbRun, cause_of as cause_of_fault};
+ghost use Rattle.locate_tools.specs.UpdatedbRun.{UpdatedbRun, cause_of as cause_of_fault};
 
 use crate::answer::Cause;
 use database_update::{UpdateFault, update};

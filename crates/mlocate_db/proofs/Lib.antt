@@ -6,6 +6,5 @@ pub mod ItemSteps
 pub mod PathSteps
 pub mod ReaderSteps
 pub mod Starts
-pub mod AheadReads
 pub mod WrittenParts
 mod DamagedExamples

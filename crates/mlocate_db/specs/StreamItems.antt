@@ -1,19 +1,13 @@
 -- What a stream gives of an item, part by part.
-use Rattle.std.specs.Prelude.{◌≡◌, ℕ, ◌≤◌, ◌^◌, Bool, true, List, ◌++◌, length, take, drop, Option, Some, None, Result, Ok, Err, ⊤, ◌↔◌}
+use Rattle.std.specs.Prelude.{◌≡◌, ℕ, ◌≤◌, Bool, true, List, ◌++◌, length, take, drop, Option, Some, None, Result, Ok, Err, ⊤, ◌↔◌}
 use Rattle.byte_feed.specs.declared.damage.Break.{Break}
 use Rattle.byte_feed.specs.Field.{IsText}
-use Rattle.byte_feed.specs.Feed.{FeedState, Draws, reach}
+use Rattle.byte_feed.specs.Feed.{FeedState}
 use Rattle.byte_feed.specs.Stream.{Gave, Breaks}
 use Rattle.mlocate_db.specs.declared.item.Fixed.{Fixed}
 use Rattle.mlocate_db.specs.declared.item.Listed.{Listed}
 use Rattle.mlocate_db.specs.declared.item.Listed.TheVariants as listeds
 use Rattle.mlocate_db.specs.Items.{Item, EntryItem, EndItem, header_at, as_header, in_directory, room_in}
-
--- Just the bytes that the feed came to hold were drawn from the source. At most 4,096 lie ahead, and none past 2^40.
-pub record ReadsAhead (f f' : FeedState) (given given' : ℕ) (left left' : Option (List ℕ)) : Type 0 where
-  pub drawn : Draws f f' given given' left left'
-  pub held : length f'.held ≤ 4096
-  pub bound : reach f' ≤ 2 ^ 40
 
 -- A header with these first fields and this root was given, and the answer tells whether its block is this one.
 pub record GaveHeader (fixed : Fixed) (root expected : List ℕ) (f : FeedState) (left : List ℕ) (f' : FeedState) (left' : List ℕ) (same : Bool) : Type 0 where

@@ -4,9 +4,9 @@ ghost use Rattle.loc_outside.specs.Causes.{Rose};
 ghost use Rattle.byte_feed.specs.Feed.{empty_at};
 ghost use Rattle.byte_feed.specs.Endings.{StopsAt};
 ghost use Rattle.byte_feed.specs.Paths.{preamble_of};
+ghost use Rattle.byte_feed.specs.Calls.{ReadsAhead};
 ghost use Rattle.byte_feed.specs.Stream.{IsFault, BreaksAt};
 ghost use Rattle.mlocate_db.specs.Items.{mlocate};
-ghost use Rattle.mlocate_db.specs.StreamItems.{ReadsAhead};
 ghost use Rattle.mlocate_db.specs.Reader.{ReaderState, fresh_on, StepGives, StepBreaks, Shows, Stepped, StartKnown, HeaderGives, Started, goes_on, is_live, is_fresh, paths_left, path_found};
 
 use crate::item::Listed;

@@ -2,9 +2,10 @@
 ghost use Rattle.std.specs.Prelude.{◌≡◌, ◌≤◌, ◌-◌, ◌+◌, ◌<◌, length, take, OnOk, IfOk};
 ghost use Rattle.loc_outside.specs.Causes.{Rose};
 ghost use Rattle.byte_feed.specs.Field.{IsText};
+ghost use Rattle.byte_feed.specs.Calls.{ReadsAhead};
 ghost use Rattle.byte_feed.specs.Stream.{StreamGives, IsFault, BreaksAt};
 ghost use Rattle.mlocate_db.specs.Items.{fixed_at, numbers_at, head_at, as_head, name_at, entry_at, room_in, in_directory};
-ghost use Rattle.mlocate_db.specs.StreamItems.{HeaderKnown, item_in, IsPathAfter, ReadsAhead};
+ghost use Rattle.mlocate_db.specs.StreamItems.{HeaderKnown, item_in, IsPathAfter};
 
 use crate::item::{Fixed, Listed, Numbers};
 use crate::reading::{fixed, numbers};

@@ -2,12 +2,16 @@ pub mod Complete
 pub mod Found
 pub mod Fragments
 pub mod Inserted
+pub mod Literals
 pub mod Marks
 pub mod Members
+pub mod Needles
 pub mod Reading
 pub mod Relations
 pub mod Rows
 pub mod Searching
 pub mod Sets
+pub mod Singles
 pub mod Sound
+pub mod Stretches
 pub mod Whole

@@ -1,8 +1,8 @@
 -- States that are marked and listed.
-use Rattle.std.proofs.Common.{◌≡◌, ◌≢◌, ◌⊎◌, ℕ, zero, suc, ◌+◌, ◌<◌, ◌≤◌, Bool, true, false, List, [], ◌∷◌, ◌++◌, length, take, set, get_or, replicate, Contains, refl, sym, ap, ◌∙◌, subst, inl, inr, ⊎_elim, arith, add-one, get_or-set_other, get_or-set_same, length-set}
+use Rattle.std.proofs.Common.{◌≡◌, ◌≢◌, ◌⊎◌, ℕ, zero, suc, ◌+◌, ◌<◌, ◌≤◌, Bool, true, false, List, [], ◌∷◌, ◌++◌, length, take, drop, set, get_or, replicate, Contains, refl, sym, ap, ◌∙◌, subst, inl, inr, ⊎_elim, arith, add-one, get_or-set_other, get_or-set_same, length-set, length-drop, drop-cons}
 use Rattle.std.proofs.Math.Seq.{take-suc-set}
-use Rattle.std.proofs.lemmas.List.{length-take-le}
-use Rattle.std.proofs.lemmas.Bool.{cases_eq, false≢true}
+use Rattle.std.proofs.lemmas.List.{length-take-le, get_or_past}
+use Rattle.std.proofs.lemmas.Bool.{cases_eq, cases_lt, false≢true}
 use Rattle.std.proofs.lemmas.List.Elements.{Contains-append_left, Contains-append_right, Contains-append_cases}
 use Rattle.posix_regex.specs.StateSet.{marked, AreMarked}
 
@@ -103,3 +103,31 @@ same_default (x ∷ l) (suc k) d e h = same_default l k d e (omega arith)
 
 pub below-at : (order : List ℕ) (count place x : ℕ) (marks : List Bool) → AreMarked order count marks → place < length (take count order) → x ≡ get_or (take count order) place 0 → x < length marks
 below-at order count place x marks h within is = (h.below x (place, within, same_default (take count order) place x 0 within ∙ sym is)).0
+
+-- where each mark is that of a state still listed, none is left where none is listed
+pub unmarked_last : (listed : List ℕ) (marks : List Bool) (k : ℕ) → length listed ≤ k → ((s : ℕ) → s < length marks → get_or marks s false ≡ true → Contains (drop k listed) s) → (s : ℕ) → get_or marks s false ≡ false
+unmarked_last listed marks k done left s = by (get_or marks s false) refl where
+  none : get_or marks s false ≡ true → ⊥
+  none e = ⊎_elim
+      (λ (within : s < length marks). omega (arith, (left s within e).1, length-drop k listed))
+      (λ (past : length marks ≤ s). false≢true (sym (get_or_past marks s false past) ∙ e))
+      (cases_lt s (length marks))
+
+  by : (b : Bool) → get_or marks s false ≡ b → get_or marks s false ≡ false
+  by true e = absurd (none e)
+  by false e = e
+
+-- taking the next one away
+pub unmarked_next : (listed : List ℕ) (marks : List Bool) (k : ℕ) → k < length listed → get_or listed k 0 < length marks → ((s : ℕ) → s < length marks → get_or marks s false ≡ true → Contains (drop k listed) s)
+    → (s : ℕ) → s < length (set marks (get_or listed k 0) false) → get_or (set marks (get_or listed k 0) false) s false ≡ true → Contains (drop (k + 1) listed) s
+unmarked_next listed marks k within fits left s inside is = ⊎_elim
+    (λ (e : s ≡ get_or listed k 0). absurd (false≢true (sym (get_or-set_same marks (get_or listed k 0) false false fits) ∙ subst (λ x. get_or (set marks (get_or listed k 0) false) x false ≡ true) e is)))
+    (λ (ne : s ≢ get_or listed k 0).
+    later (left s (omega (arith, inside, length-set marks (get_or listed k 0) false)) (sym (get_or-set_other marks (get_or listed k 0) s false false ne) ∙ is)) ne)
+    (cases_eq s (get_or listed k 0)) where
+      tail : (xs : List ℕ) (x : ℕ) → Contains (x ∷ xs) s → s ≢ x → Contains xs s
+      tail xs x (zero, lt, e) ne = absurd (ne (sym e))
+      tail xs x (suc n, lt, e) ne = (n, omega arith, e)
+
+      later : Contains (drop k listed) s → s ≢ get_or listed k 0 → Contains (drop (k + 1) listed) s
+      later h ne = rw (add-one k) (tail (drop (suc k) listed) (get_or listed k 0) (subst (λ l. Contains l s) (drop-cons listed k 0 within) h) ne)

@@ -1,8 +1,8 @@
 -- Regular expressions, and what they span in a text.
 use Rattle.std.specs.Prelude.{◌≡◌, ℕ, zero, suc, ◌+◌, ◌*◌, ◌<◌, ◌≤◌, ◌⊎◌, max, List, length, slice_index, Contains, Option, Some, None}
 
--- one byte out of some, an anchor, nothing, one after the other, one or the other, or one again and again: so many
--- times, and then any number of times more or, where a second number stands, at most so many times more
+-- one byte of some; the start or the end of the text; nothing; one expression and then another; one or the other; one
+-- repeated at least so many times and, where a second number is given, at most so many times more
 pub data Expression : Type 0 where
   OneOf : List ℕ → Expression
   Start : Expression
@@ -17,7 +17,7 @@ abbrev pub IsAllowed : ℕ → Option ℕ → ℕ → Type 0
 IsAllowed least None count = least ≤ count
 IsAllowed least (Some more) count = (least ≤ count) × (count ≤ least + more)
 
--- so many steps that follow one another lead from one place to another
+-- so many steps, one after another, lead from one place to another
 abbrev pub Times : (ℕ → ℕ → Type 0) → ℕ → ℕ → ℕ → Type 0
 Times Step zero i j = i ≡ j
 Times Step (suc count) i j = (k : ℕ) × Step i k × Times Step count k j
@@ -36,8 +36,8 @@ Spans (Repeat inner least more) text i j = (count : ℕ) × IsAllowed least more
 abbrev pub Found : Expression → List ℕ → Type 0
 Found expression text = (i : ℕ) × (j : ℕ) × (i ≤ j) × (j ≤ length text) × Spans expression text i j
 
--- How big an expression is: its bytes, anchors and bars. A part that is repeated counts as often as it may be, with one more
--- each time; where that is without end, as often as it must be, or once.
+-- How big an expression is: its byte sets, anchors and bars. A repeated part counts, with one more each time, as often as
+-- it may come; where that has no bound, as often as it must come, at least once, and one more.
 unfoldable pub size : Expression → ℕ
 size (OneOf bytes) = 1
 size Start = 1

@@ -1,10 +1,10 @@
--- What is kept of a part of an expression.
+-- The compiled parts of an expression.
 use Rattle.std.specs.Prelude.{◌≡◌, ℕ, ◌≤◌, min, List, Option, Some, None}
 use Rattle.posix_regex.specs.declared.fragment.Fragment.{Fragment}
 use Rattle.posix_regex.specs.Expression.{Expression, size}
 use Rattle.posix_regex.specs.Program.{Item, items_of}
 
--- a size, cut off one above what is allowed, and the items, where the size is allowed
+-- the size is right up to one above the greatest allowed, and the items are right where the size is allowed
 pub record IsSized (kept : ℕ) (items : List Item) (expression : Expression) : Type 0 where
   pub cut_size : kept ≡ min (size expression) 4097
   pub written : size expression ≤ 4096 → items ≡ items_of expression

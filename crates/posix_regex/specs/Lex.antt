@@ -5,7 +5,7 @@ use Rattle.byte_class.specs.Class.{is_alnum}
 use Rattle.posix_regex.specs.declared.lex.Meaning.{Meaning}
 use Rattle.posix_regex.specs.declared.lex.Meaning.TheVariants.{Byte, Any, Bracket, Start, End, Open, Close, Bar, Suffix, Interval, Trailing, Unsupported}
 
--- what a backslash before a byte means in extended syntax, and how many bytes the two take
+-- what a backslash right before the text means in extended syntax, and how many bytes it takes
 unfoldable pub escape_extended : List ℕ → Meaning × ℕ
 escape_extended [] = (Trailing, 1)
 escape_extended (x ∷ text) = if is_alnum x then (Unsupported, 2) else (Byte x, 2)
@@ -19,7 +19,7 @@ escape_basic (x ∷ text) =
     else (if x == 123 then (Interval, 2)
     else (if is_alnum x || (x == 124 || (x == 43 || x == 63)) then (Unsupported, 2) else (Byte x, 2))))
 
--- the meaning of the first bytes in extended syntax, and how many they are
+-- what a byte right before the text means in extended syntax, and how many bytes it takes
 unfoldable pub meaning_extended : ℕ → List ℕ → Meaning × ℕ
 meaning_extended x text =
     if x == 92 then escape_extended text
@@ -36,12 +36,12 @@ meaning_extended x text =
     else (if x == 123 then (Interval, 1)
     else (Byte x, 1))))))))))))
 
--- whether the pattern or the group ends here, in basic syntax
+-- the pattern or a group ends here, in basic syntax
 unfoldable pub is_end : List ℕ → Bool
 is_end text = (length text == 0) || starts_with nat_eq text (codes "\\)")
 
--- the same in basic syntax, where it matters whether the pattern or a group has just begun, and whether it has
--- begun with at most an anchor
+-- the same in basic syntax, which asks whether the pattern or a group has just begun (`begins`), and whether it has nothing
+-- yet but perhaps an anchor (`bare`)
 unfoldable pub meaning_basic : Bool → Bool → ℕ → List ℕ → Meaning × ℕ
 meaning_basic begins bare x text =
     if x == 92 then escape_basic text
@@ -52,7 +52,7 @@ meaning_basic begins bare x text =
     else (if x == 42 && not bare then (Suffix 0 None, 1)
     else (Byte x, 1))))))
 
--- what the bytes at the head of a text mean, and how many they are
+-- what the head of a text means, and how many bytes it takes
 unfoldable pub meaning_at : Bool → Bool → Bool → List ℕ → Meaning × ℕ
 meaning_at extended begins bare [] = (Trailing, 1)
 meaning_at extended begins bare (x ∷ text) = if extended then meaning_extended x text else meaning_basic begins bare x text

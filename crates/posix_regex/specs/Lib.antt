@@ -4,9 +4,11 @@ pub mod Fragment
 pub mod Interval
 pub mod Lead
 pub mod Lex
+pub mod Literal
 pub mod Moves
 pub mod Pattern
 pub mod Program
 pub mod Reader
 pub mod StateSet
+pub mod Texts
 pub mod Token

@@ -2,7 +2,7 @@
 use Rattle.std.specs.Prelude.{◌≡◌, ℕ, zero, suc, ◌+◌, ◌<◌, ◌≤◌, ◌⊎◌, List, length, slice_get, slice_index, Contains, Option, Some, None}
 use Rattle.posix_regex.specs.Program.{Item, Takes, AtStart, AtEnd, Fork, Back, Skip}
 
--- the item that stands at a place of the row leads from a place of the text on to an item and a place
+-- the item at place s of the row leads, from place i of the text, to item t at place j
 abbrev pub Leads : List ℕ → Option Item → ℕ → ℕ → ℕ → ℕ → Type 0
 Leads text None s i t j = ⊥
 Leads text (Some (Takes bytes)) s i t j = (t ≡ s + 1) × (j ≡ i + 1) × (i < length text) × Contains bytes (slice_index text i)
@@ -12,16 +12,16 @@ Leads text (Some (Fork further)) s i t j = (j ≡ i) × ((t ≡ s + 1) ⊎ (t �
 Leads text (Some (Back before)) s i t j = (j ≡ i) × ((t ≡ s + 1) ⊎ (t + before ≡ s))
 Leads text (Some (Skip further)) s i t j = (j ≡ i) × (t ≡ s + further)
 
--- so many moves from the first item, at any place of the text, come to an item and a place
+-- so many moves lead from the first item, at any place of the text, to an item and a place
 abbrev pub Comes : ℕ → List Item → List ℕ → ℕ → ℕ → Type 0
 Comes zero items text s i = (s ≡ 0) × (i ≤ length text)
 Comes (suc count) items text s i =
     (t : ℕ) × (k : ℕ) × Comes count items text t k × Leads text (slice_get items t) t k s i
 
--- the items come to this one at this place of the text
+-- some moves lead to this item at this place of the text
 abbrev pub Reached : List Item → List ℕ → ℕ → ℕ → Type 0
 Reached items text s i = (count : ℕ) × Comes count items text s i
 
--- the items come to their end somewhere in the text
+-- the items reach their end somewhere in the text
 abbrev pub ReachesEnd : List Item → List ℕ → Type 0
 ReachesEnd items text = (j : ℕ) × Reached items text (length items) j

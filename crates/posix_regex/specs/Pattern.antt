@@ -7,8 +7,8 @@ use Rattle.posix_regex.specs.Expression.{Expression, Empty, Then, Or, Repeat, si
 use Rattle.posix_regex.specs.Token.{Token, Atom, Suffix, Bar, Open, Close, token_at, begins_after, bare_after}
 use Rattle.posix_regex.specs.Bracket.{on_ok}
 
--- what was read of a group, or of the pattern: the place of its mark, the branches before the last bar, and the last
--- branch but for its last piece, and that piece
+-- what was read of one group, or of the pattern outside all groups: the place of its mark, the branches before the last
+-- bar, the last branch without its last piece, and that piece
 pub record Group : Type 0 where
   pub mark : ℕ
   pub branches : Option Expression
@@ -18,12 +18,12 @@ pub record Group : Type 0 where
 abbrev pub group_at : ℕ → Group
 group_at mark = record { mark = mark; branches = None; branch = Empty; piece = None }
 
--- an expression and the piece after it, if there is one
+-- a branch and the piece that ends it, if there is one
 abbrev pub with_piece : Expression → Option Expression → Expression
 with_piece branch None = branch
 with_piece branch (Some piece) = Then branch piece
 
--- branches and the one after them, if there are any
+-- the branches before, if there are any, or this one
 abbrev pub with_branch : Option Expression → Expression → Expression
 with_branch None branch = branch
 with_branch (Some branches) branch = Or branches branch
@@ -50,8 +50,8 @@ abbrev pub repeat_piece : ℕ → Option ℕ → Option Expression → Result Ex
 repeat_piece least more None = Err BadRepeat
 repeat_piece least more (Some piece) = Ok (Repeat piece least more)
 
--- what was read of a pattern: the innermost open group, or the pattern where none is open, and those that it
--- stands in, the innermost first
+-- what was read of a pattern: the innermost open group, or the pattern where none is open, and those around it, the
+-- innermost first
 pub record Reading : Type 0 where
   pub inner : Group
   pub outer : List Group
@@ -59,12 +59,12 @@ pub record Reading : Type 0 where
 abbrev pub nothing_read : Reading
 nothing_read = record { inner = group_at 0; outer = [] }
 
--- a group was read whole
+-- a group is closed and becomes an atom of the one around it
 abbrev pub close : Expression → List Group → Result Reading RegexCause
 close group [] = Err BadGroup
 close group (inner ∷ outer) = Ok (record { inner = add_atom group inner; outer = outer })
 
--- one token more, which stands at a place
+-- the token at a place is added
 abbrev pub add_token : ℕ → Token → Reading → Result Reading RegexCause
 add_token place (Atom atom) read = Ok (record { inner = add_atom atom read.inner; outer = read.outer })
 add_token place (Suffix least more) read =
@@ -83,7 +83,7 @@ abbrev pub finish : Group → List Group → Result Expression RegexFault
 finish inner [] = Ok (expression_of inner)
 finish inner (group ∷ outer) = Err (record { place = inner.mark; cause = BadGroup })
 
--- a fault at a place, and one that is placed from there
+-- a fault at this place, and one whose place counts from there
 abbrev pub fault_at : {A : Type 0} → ℕ → Result A RegexCause → Result A RegexFault
 fault_at place (Ok read) = Ok read
 fault_at place (Err cause) = Err (record { place = place; cause = cause })
@@ -92,7 +92,7 @@ abbrev pub fault_from : {A : Type 0} → ℕ → Result A (ℕ × RegexCause) �
 fault_from place (Ok read) = Ok read
 fault_from place (Err fault) = Err (record { place = place + fault.0; cause = fault.1 })
 
--- past some bytes of the text, which stands at a place, what the whole pattern stands for
+-- past `skip` bytes of the text, which begins at a place, what the whole pattern stands for
 unfoldable pub read_from : Bool → Bool → ℕ → ℕ → List ℕ → Bool → Bool → Reading → Result Expression RegexFault
 read_from extended fold place skip [] begins bare read = finish read.inner read.outer
 read_from extended fold place (suc skip) (x ∷ text) begins bare read =

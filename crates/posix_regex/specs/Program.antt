@@ -1,13 +1,13 @@
--- What an expression is turned into: items in a row, of which each leads on to at most two others.
+-- What an expression is compiled into: items in a row, each of which leads to at most two others.
 use Rattle.std.specs.Prelude.{ℕ, zero, suc, ◌+◌, List, [], ◌∷◌, ◌++◌, length, Some, None}
 use Rattle.byte_class.specs.ByteSet.{has, members}
 use Rattle.posix_regex.specs.declared.states.State.{State}
 use Rattle.posix_regex.specs.declared.states.State.TheVariants.{Set as KeptSet, Start as KeptStart, End as KeptEnd, Fork as KeptFork, Back as KeptBack, Skip as KeptSkip}
 use Rattle.posix_regex.specs.Expression.{Expression, OneOf, Start, End, Empty, Then, Or, Repeat}
 
--- an item takes one byte out of some, stands only at the first or the last place, or takes nothing; all but a skip lead on
--- to the next item, a fork also to the one that stands so many further, a way back to the one so many before, and a
--- skip alone to the one so many further
+-- an item takes one byte of some, holds only at the start or the end of the text, or takes nothing; all but a skip lead to
+-- the next item, a fork also to the one so many further, `Back` also to the one so many before; a skip leads to the one so
+-- many further alone
 pub data Item : Type 0 where
   Takes : List ℕ → Item
   AtStart : Item
@@ -16,25 +16,25 @@ pub data Item : Type 0 where
   Back : ℕ → Item
   Skip : ℕ → Item
 
--- items so many times in a row
+-- the items, so many times in a row
 abbrev pub copies : ℕ → List Item → List Item
 copies zero items = []
 copies (suc count) items = items ++ copies count items
 
--- items that may be passed over
+-- the items, or none of them
 abbrev pub optional : List Item → List Item
 optional items = Fork (length items + 1) ∷ items
 
--- items that may come again
+-- the items, once or more
 abbrev pub again : List Item → List Item
 again items = items ++ Back (length items) ∷ []
 
--- items at least so many times
+-- the items, at least so many times
 abbrev pub at_least : ℕ → List Item → List Item
 at_least zero items = optional (again items)
 at_least (suc least) items = copies least items ++ again items
 
--- items so many times, and at most so many times more
+-- the items so many times, and at most so many times more
 abbrev pub between : ℕ → ℕ → List Item → List Item
 between least more items = copies least items ++ copies more (optional items)
 
@@ -53,7 +53,7 @@ items_of (Or first second) = either (items_of first) (items_of second)
 items_of (Repeat inner least None) = at_least least (items_of inner)
 items_of (Repeat inner least (Some more)) = between least more (items_of inner)
 
--- the item that is kept
+-- the item that a state stands for
 abbrev pub item_of : State → Item
 item_of (KeptSet set) = Takes (members (has set))
 item_of KeptStart = AtStart

@@ -27,11 +27,11 @@ pub record StandsForAll (reader : Reader) (reading : Reading) : Type 0 where
   pub its_inner : StandsFor reader.inner reading.inner
   pub its_outer : AllStand reader.outer reading.outer
 
--- there is no memory
+-- memory ran out
 abbrev pub no_memory : RegexFault
 no_memory = record { place = 0; cause = OutOfMemory }
 
--- what is kept after a token stands for what is then read, or the token is refused, or there is no memory
+-- what is kept after a token stands for what was then read, or the token is refused, or memory ran out
 abbrev pub Adds : Result Reader RegexCause → Result Reading RegexCause → Type 0
 Adds result expected =
     MatchResult result (λ reader. IsOkAnd expected (λ read. StandsForAll reader read)) (λ cause. (cause ≡ OutOfMemory) ⊎ (expected ≡ Err cause))

@@ -1,7 +1,7 @@
--- What a set of states has.
+-- Sets of states.
 use Rattle.std.specs.Prelude.{◌≡◌, ℕ, suc, ◌<◌, Bool, true, false, List, [], ◌∷◌, length, take, slice_index_or, Contains}
 
--- the states below a number that were inserted, in their order
+-- the states inserted, in their order, each below the width
 pub record Members : Type 0 where
   pub width : ℕ
   pub order : List ℕ
@@ -12,7 +12,7 @@ marked [] = 0
 marked (true ∷ marks) = suc (marked marks)
 marked (false ∷ marks) = marked marks
 
--- the first of the kept states are those that are marked, each once
+-- the first `count` of the listed states are the marked ones, each once
 pub record AreMarked (order : List ℕ) (count : ℕ) (marks : List Bool) : Type 0 where
   pub same_length : length order ≡ length marks
   pub counted : count ≡ marked marks

@@ -19,7 +19,7 @@ pub data Token : Type 0 where
   Open : Token
   Close : Token
 
--- the expression of one byte, in both its cases where case is folded
+-- the expression of one byte, in both cases where case is folded
 unfoldable pub literal : Bool → ℕ → Expression
 literal fold byte = OneOf (members (folded fold (λ x. x == byte)))
 
@@ -31,7 +31,8 @@ unfoldable pub interval_token : ℕ → Option ((ℕ × Option ℕ) × ℕ) → 
 interval_token opening None = Err (0, BadRepeat)
 interval_token opening (Some bounds) = Ok (Suffix bounds.0.0 bounds.0.1, opening + bounds.1)
 
--- the token that some bytes begin, before the text, and how many bytes it takes; a fault is placed from its first byte
+-- the token whose first `taken` bytes, right before the text, have this meaning, and how many bytes it takes; the place of
+-- a fault counts from its first byte
 unfoldable pub token_of_meaning : Bool → Bool → Meaning → ℕ → List ℕ → Result (Token × ℕ) (ℕ × RegexCause)
 token_of_meaning extended fold (Byte byte) taken text = Ok (Atom (literal fold byte), taken)
 token_of_meaning extended fold Any taken text = Ok (Atom any_byte, taken)
@@ -52,7 +53,7 @@ token_at extended fold begins bare text =
     token_of_meaning extended fold (meaning_at extended begins bare text).0 (meaning_at extended begins bare text).1
     (drop (meaning_at extended begins bare text).1 text)
 
--- the token that is kept
+-- the token that the code keeps
 abbrev pub token_of : Kept → Token
 token_of (KeptSet set) = Atom (OneOf (members (has set)))
 token_of KeptStart = Atom Start
@@ -62,8 +63,8 @@ token_of KeptBar = Bar
 token_of KeptOpen = Open
 token_of KeptClose = Close
 
--- Whether the pattern or a group has just begun after a token, and whether it has begun with at most an anchor. Basic syntax
--- alone asks; there an anchor of the start is only at a beginning, so an anchor behind a token tells that one has begun.
+-- Whether a group has just begun after a token, and whether nothing but perhaps an anchor stands between there and a
+-- beginning. Only basic syntax asks, where `^` is an anchor at a beginning alone, so that the token `^` tells of one.
 unfoldable pub begins_after : Token → Bool
 begins_after Open = true
 begins_after (Atom e) = false

@@ -29,8 +29,8 @@ fn is_range(text: &[u8]) -> bool
     read_class(&text[1..]).is_none()
 }
 
-/// Inserts the class that stands first, whose name has so many letters, and answers how many bytes it
-/// takes. The place is that of its `[`.
+/// Inserts the class at the head of the text, whose name has `letters` letters, and returns how many bytes it
+/// takes. `at` is the place of its `[`.
 #[tactic(auto, unfolding(crate::specs::Bracket::class_member, byte_class::specs::Part::has_part, byte_class::specs::Class::name_has))]
 fn class_member(
     set: ByteSet,
@@ -55,7 +55,7 @@ fn class_member(
     }
 }
 
-/// Inserts the range from a byte at a place, after which the text stands.
+/// Inserts the range that `low`, the byte at the place `at` before the text, begins.
 #[tactic(auto, unfolding(crate::specs::Bracket::range_member, byte_class::specs::Part::has_part))]
 fn range_member(
     set: ByteSet,
@@ -82,7 +82,7 @@ fn range_member(
     Ok((more, 3))
 }
 
-/// Inserts the member that begins with a byte that begins no class.
+/// Inserts a byte or a range: the member at the head of a text that begins with no class.
 #[tactic(auto, unfolding(crate::specs::Bracket::byte_member, byte_class::specs::Part::has_part))]
 fn byte_member(
     set: ByteSet,
@@ -110,7 +110,7 @@ fn byte_member(
     Ok((more, 1))
 }
 
-/// Inserts the member that stands first, and answers how many bytes it takes.
+/// Inserts the member at the head of the text, and returns how many bytes it takes.
 #[tactic(auto, unfolding(crate::specs::Bracket::member_or))]
 fn insert_member(
     set: ByteSet,
@@ -132,8 +132,8 @@ fn insert_member(
     }
 }
 
-/// The members up to the closing `]`, of which the first may be a `]`, and the place after it. The
-/// text stands at the place `start`.
+/// The members up to the closing `]`, and the place after it. The first member may be a `]`. The text begins at the
+/// place `start`.
 fn read_members(start: usize, text: &[u8]) -> Result<(ByteSet, usize), (usize, RegexCause)>
     requires { start + length text.now < 2 ^ 63 }
     ensures value { MatchResult result
@@ -166,7 +166,7 @@ fn read_members(start: usize, text: &[u8]) -> Result<(ByteSet, usize), (usize, R
     Err((0, RegexCause::BadBracket))
 }
 
-/// Whether the mark of a complement stands first.
+/// Whether the text begins with `^`, the mark of a complement.
 #[tactic(auto, unfolding(crate::specs::Bracket::is_complement))]
 fn is_complement(text: &[u8]) -> bool
     ensures value { result ≡ is_complement text.now }
@@ -175,7 +175,7 @@ fn is_complement(text: &[u8]) -> bool
     !text.is_empty() && text[0] == b'^'
 }
 
-/// The members after the mark of a complement, if it stands, and the place after the closing `]`.
+/// The members, past the mark of a complement if there is one, and the place after the closing `]`.
 #[tactic(auto, unfolding(crate::specs::Bracket::members_marked))]
 fn read_marked(text: &[u8]) -> Result<(ByteSet, usize), (usize, RegexCause)>
     requires { length text.now + 1 < 2 ^ 63 }
@@ -192,8 +192,8 @@ fn read_marked(text: &[u8]) -> Result<(ByteSet, usize), (usize, RegexCause)>
     read_members(1, text)
 }
 
-/// The set of the bracket expression whose `[` stands before the text, and how many bytes it takes with
-/// it.
+/// The set of the bracket expression whose `[` comes right before the text, and how many bytes the expression takes,
+/// the `[` among them.
 pub(crate) fn read_bracket(fold: bool, text: &[u8]) -> Result<(ByteSet, usize), (usize, RegexCause)>
     requires { length text.now + 1 < 2 ^ 63 }
     ensures value { MatchResult result

@@ -1,4 +1,4 @@
-//! A part of an expression, as states.
+//! Parts of an expression, compiled into states.
 ghost use Rattle.std.specs.Prelude.{◌≡◌, ◌≤◌, ◌+◌, ◌-◌, ◌*◌, ◌^◌, min, Some, None, IfOk};
 ghost use Rattle.posix_regex.specs.Expression.{Expression, OneOf, Start, End, Empty, Then, Or, Repeat};
 ghost use Rattle.byte_class.specs.ByteSet.{has, members};
@@ -7,11 +7,11 @@ use crate::states::{State, States, at_least, between, either};
 use byte_class::ByteSet;
 use std::alloc::{AllocError, Global};
 
-/// The greatest size that is allowed.
+/// The greatest size allowed.
 pub(crate) const MAX_SIZE: usize = 4096;
 
-/// A part of an expression: its size, cut off one above what is allowed, and its states, where the size
-/// is allowed. A part that is too big may still be repeated zero times.
+/// A compiled part of an expression. The size stops at one above the greatest allowed; past that the states mean
+/// nothing. A part that is too big can still be repeated zero times, and so be fine in the end.
 #[derive(Drop)]
 pub(crate) struct Fragment {
     pub(crate) size: usize,
@@ -19,21 +19,21 @@ pub(crate) struct Fragment {
     ghost cut: { size ≤ 4097 },
 }
 
-/// A size, cut off one above what is allowed.
+/// The size, at most one above the greatest allowed.
 fn cut(size: usize) -> usize
     ensures { result ≡ min size 4097 }
 {
     if size <= MAX_SIZE { size } else { MAX_SIZE + 1 }
 }
 
-/// A sum, cut off where any size is too big.
+/// The sum, or the greatest `usize`.
 fn sum(least: usize, more: usize) -> usize
     ensures { result ≡ min (least + more) (2 ^ 64 - 1) }
 {
     least.saturating_add(more)
 }
 
-/// The size of so many parts of a size, and one more each.
+/// The size of `count` copies, each with a fork.
 fn repeated(count: usize, size: usize) -> usize
     requires { size ≤ 4097 }
     ensures { result ≡ min (count * (size + 1)) 4097 }
@@ -54,7 +54,7 @@ impl Fragment {
         }
     }
 
-    /// One byte of the set.
+    /// Any one byte of the set.
     pub(crate) fn one_of(alloc: Global, set: ByteSet) -> Result<Fragment, AllocError>
         ensures { IfOk result (λ f. Stands f (OneOf (members (has set)))) }
     {
@@ -63,7 +63,7 @@ impl Fragment {
         Ok(Fragment { size: 1, states })
     }
 
-    /// The first place.
+    /// The anchor `^`.
     pub(crate) fn start(alloc: Global) -> Result<Fragment, AllocError>
         ensures { IfOk result (λ f. Stands f Start) }
     {
@@ -72,7 +72,7 @@ impl Fragment {
         Ok(Fragment { size: 1, states })
     }
 
-    /// The last place.
+    /// The anchor `$`.
     pub(crate) fn end(alloc: Global) -> Result<Fragment, AllocError>
         ensures { IfOk result (λ f. Stands f End) }
     {
@@ -81,7 +81,7 @@ impl Fragment {
         Ok(Fragment { size: 1, states })
     }
 
-    /// One after the other.
+    /// This one, then the other.
     pub(crate) fn then(self, other: Fragment) -> Result<Fragment, AllocError>
         ensures { (a b : Expression) → Stands self a → Stands other b → IfOk result (λ f. Stands f (Then a b)) }
     {
@@ -94,7 +94,7 @@ impl Fragment {
         Ok(Fragment { size, states })
     }
 
-    /// One or the other.
+    /// This one or the other.
     pub(crate) fn or(self, alloc: Global, other: Fragment) -> Result<Fragment, AllocError>
         ensures { (a b : Expression) → Stands self a → Stands other b → IfOk result (λ f. Stands f (Or a b)) }
     {
@@ -109,7 +109,7 @@ impl Fragment {
         Ok(Fragment { size, states })
     }
 
-    /// Again and again, at least so many times.
+    /// At least `least` times.
     fn at_least(self, alloc: Global, least: usize) -> Result<Fragment, AllocError>
         ensures { (a : Expression) → Stands self a → IfOk result (λ f. Stands f (Repeat a least None)) }
     {
@@ -124,7 +124,7 @@ impl Fragment {
         Ok(Fragment { size, states })
     }
 
-    /// So many times, and at most so many times more.
+    /// From `least` to `least + more` times.
     fn between(self, alloc: Global, least: usize, more: usize) -> Result<Fragment, AllocError>
         ensures { (a : Expression) → Stands self a → IfOk result (λ f. Stands f (Repeat a least (Some more))) }
     {
@@ -139,7 +139,7 @@ impl Fragment {
         Ok(Fragment { size, states })
     }
 
-    /// So many times, and then any number of times more or, where a second number stands, at most so many.
+    /// At least `least` times and, where `more` is given, at most `more` times more.
     pub(crate) fn repeated(
         self,
         alloc: Global,

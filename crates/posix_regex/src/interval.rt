@@ -1,9 +1,9 @@
-//! The intervals of repetitions.
+//! Intervals: how often `{m,n}` lets a piece repeat.
 ghost use Rattle.std.specs.Prelude.{◌≡◌, ◌+◌, ◌-◌, ◌<◌, ◌≤◌, length, IfSome};
 ghost use Rattle.std.specs.List.{prefix_len};
 ghost use Rattle.posix_regex.specs.Interval.{is_digit, value_of, number_at, closing, bounded, unbounded, after_number, after_first, interval_or, interval_at};
 
-/// How many digits a text begins with.
+/// How many digits the text begins with.
 fn digits(text: &[u8]) -> usize
     ensures value { result ≡ prefix_len is_digit text.now }
     ensures within { result ≤ length text.now }
@@ -15,7 +15,7 @@ fn digits(text: &[u8]) -> usize
     n
 }
 
-/// The digit that a byte writes.
+/// The value of a digit.
 fn digit(byte: u8) -> usize
     ensures value { result ≡ byte - 48 }
     ensures bound { result ≤ 207 }
@@ -40,7 +40,7 @@ fn value_of(digits: usize, text: &[u8]) -> usize
     }
 }
 
-/// The number of one to three digits that stands first, and how many they are.
+/// The number at the head of the text, of one to three digits, and how many digits it has.
 #[tactic(auto, unfolding(crate::specs::Interval::number_at))]
 fn number_at(text: &[u8]) -> Option<(usize, usize)>
     ensures value { result ≡ number_at text.now }
@@ -63,7 +63,7 @@ fn closing(extended: bool) -> &'static [u8]
     if extended { b"}" } else { b"\\}" }
 }
 
-/// The least count of a repetition, how many more are allowed, and how many bytes spell it.
+/// The least count of a repetition, how many more are allowed, and how many bytes the interval takes.
 type Bounds = ((usize, Option<usize>), usize);
 
 #[tactic(auto, unfolding(crate::specs::Interval::bounded))]
@@ -90,7 +90,7 @@ fn unbounded(least: usize, taken: usize) -> Option<Bounds>
     }
 }
 
-/// The end of an interval after its comma.
+/// The rest of an interval, after its comma.
 #[tactic(auto, unfolding(crate::specs::Interval::after_number))]
 fn after_number(extended: bool, least: usize, taken: usize, text: &[u8]) -> Option<Bounds>
     requires { taken ≤ 4 }
@@ -108,7 +108,7 @@ fn after_number(extended: bool, least: usize, taken: usize, text: &[u8]) -> Opti
     }
 }
 
-/// The end of an interval after its first number.
+/// The rest of an interval, after its first number.
 #[tactic(auto, unfolding(crate::specs::Interval::after_first))]
 fn after_first(extended: bool, least: usize, taken: usize, text: &[u8]) -> Option<Bounds>
     requires { taken ≤ 3 }
@@ -129,8 +129,7 @@ fn after_first(extended: bool, least: usize, taken: usize, text: &[u8]) -> Optio
     after_number(extended, least, taken + 1, rest)
 }
 
-/// The interval whose opening stands before the text: how often it lets repeat, and how many bytes of
-/// the text it takes.
+/// The interval whose opening comes right before the text, and how many bytes of the text it takes.
 #[tactic(auto, unfolding(crate::specs::Interval::interval_or))]
 pub(crate) fn read_interval(extended: bool, text: &[u8]) -> Option<Bounds>
     ensures value { result ≡ interval_at extended text.now }

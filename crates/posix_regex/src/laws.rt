@@ -4,8 +4,7 @@ ghost use Rattle.posix_regex.specs.Expression.{Expression, Found};
 ghost use Rattle.posix_regex.specs.Program.{items_of};
 ghost use Rattle.posix_regex.specs.Moves.{ReachesEnd};
 
-/// The items of an expression come to their end in exactly the texts of which the expression spans some
-/// part.
+/// The items of an expression reach their end in exactly the texts in which the expression is found.
 pub fn items_find_what_is_spanned()
     ensures { (e : Expression) → (text : List ℕ) → (ReachesEnd (items_of e) text ↔ Found e text) }
 {}

@@ -2,29 +2,29 @@
 ghost use Rattle.std.specs.Prelude.{◌≡◌, ◌+◌, ◌<◌, ◌≤◌, length};
 ghost use Rattle.posix_regex.specs.Lex.{escape_extended, escape_basic, meaning_extended, meaning_basic, is_end, meaning_at};
 
-/// What some bytes of a pattern mean.
+/// What one or two bytes of a pattern mean.
 #[derive(Clone, Copy)]
 pub(crate) enum Meaning {
     /// The byte itself.
     Byte(u8),
     Any,
-    /// A bracket expression begins.
+    /// The `[` of a bracket expression.
     Bracket,
     Start,
     End,
     Open,
     Close,
     Bar,
-    /// What stands before repeats: so many times, and then any number of times more or at most so many.
+    /// The piece before repeats: at least so many times and, where a second number is given, at most so many more.
     Suffix(usize, Option<usize>),
-    /// An interval begins.
+    /// The opening of an interval.
     Interval,
-    /// A backslash ends the pattern.
+    /// A backslash at the end of the pattern.
     Trailing,
     Unsupported,
 }
 
-/// What a backslash before the text means in extended syntax, and how many bytes say so.
+/// What a backslash right before the text means in extended syntax, and how many bytes it takes.
 #[tactic(auto, unfolding(crate::specs::Lex::escape_extended))]
 fn escape_extended(text: &[u8]) -> (Meaning, usize)
     ensures value { result ≡ escape_extended text.now }
@@ -71,7 +71,7 @@ fn escape_basic(text: &[u8]) -> (Meaning, usize)
     }
 }
 
-/// What a byte before the text means in extended syntax, and how many bytes say so.
+/// What a byte right before the text means in extended syntax, and how many bytes it takes.
 #[tactic(auto, unfolding(crate::specs::Lex::meaning_extended))]
 fn meaning_extended(byte: u8, text: &[u8]) -> (Meaning, usize)
     ensures value { result ≡ meaning_extended byte text.now }
@@ -107,7 +107,7 @@ fn meaning_extended(byte: u8, text: &[u8]) -> (Meaning, usize)
     }
 }
 
-/// Whether the pattern or the group ends before the text, in basic syntax.
+/// Whether the pattern or a group ends at the head of the text, in basic syntax.
 #[tactic(auto, unfolding(crate::specs::Lex::is_end))]
 fn is_end(text: &[u8]) -> bool
     ensures { result ≡ is_end text.now }
@@ -115,7 +115,7 @@ fn is_end(text: &[u8]) -> bool
     text.is_empty() || text.starts_with(b"\\)")
 }
 
-/// What a byte before the text means in basic syntax, and how many bytes say so.
+/// What a byte right before the text means in basic syntax, and how many bytes it takes.
 #[tactic(auto, unfolding(crate::specs::Lex::meaning_basic))]
 fn meaning_basic(begins: bool, bare: bool, byte: u8, text: &[u8]) -> (Meaning, usize)
     ensures value { result ≡ meaning_basic begins bare byte text.now }
@@ -139,8 +139,8 @@ fn meaning_basic(begins: bool, bare: bool, byte: u8, text: &[u8]) -> (Meaning, u
     }
 }
 
-/// What the bytes at the head of the text mean, and how many they are. In basic syntax it matters
-/// whether the pattern or a group has just begun, and whether it has begun with at most an anchor.
+/// What the head of the text means, and how many bytes it takes. Basic syntax asks whether the pattern or a group has
+/// just begun (`begins`), and whether it has nothing yet but perhaps an anchor (`bare`).
 #[tactic(auto, unfolding(crate::specs::Lex::meaning_at))]
 pub(crate) fn meaning_at(extended: bool, begins: bool, bare: bool, text: &[u8]) -> (Meaning, usize)
     requires { 0 < length text.now }

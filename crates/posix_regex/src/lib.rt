@@ -7,6 +7,7 @@ mod fragment;
 mod interval;
 pub mod laws;
 mod lex;
+mod literal;
 mod pattern;
 mod reader;
 mod regex;

@@ -1,4 +1,4 @@
-//! The reading of a pattern.
+//! Reads a pattern.
 ghost use Rattle.std.specs.Prelude.{◌≡◌, ◌⊎◌, Err, IsOkAnd, MatchResult, true};
 ghost use Rattle.posix_regex.specs.declared.fault.RegexCause.TheVariants.{OutOfMemory};
 ghost use Rattle.posix_regex.specs.Fragment.{Stands};
@@ -11,7 +11,7 @@ use crate::reader::Reader;
 use crate::token::{bare_after, begins_after, read_token};
 use std::alloc::Global;
 
-/// The fault of a cause, which has no place where there is no memory.
+/// The fault of a cause at a place; out of memory has the place 0.
 fn fault_of(place: usize, cause: RegexCause) -> RegexFault
     ensures cause { result.cause ≡ cause }
     ensures none { cause ≡ OutOfMemory → result.place ≡ 0 }
@@ -26,7 +26,7 @@ fn fault_of(place: usize, cause: RegexCause) -> RegexFault
     }
 }
 
-/// The expression of a pattern, however big.
+/// The compiled pattern, whose size is not judged yet.
 pub(crate) fn read_pattern(
     alloc: Global,
     pattern: &[u8],

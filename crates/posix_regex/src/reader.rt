@@ -1,4 +1,4 @@
-//! The tokens of a pattern, put together.
+//! Puts the tokens of a pattern together.
 ghost use Rattle.std.specs.Prelude.{◌≡◌, ◌⊎◌, ℕ, Err, List, Option, length, IfOk, IsOkAnd, MatchResult};
 ghost use Rattle.posix_regex.specs.declared.fault.RegexCause.TheVariants.{OutOfMemory};
 ghost use Rattle.posix_regex.specs.Expression.{Expression, Empty};
@@ -12,7 +12,7 @@ use crate::token::Kept;
 use std::alloc::{AllocError, Global};
 use std::collections::LinkedList;
 
-/// What was read of a group, or of the pattern.
+/// What was read of one group, or of the pattern outside all groups.
 #[derive(Drop)]
 pub(crate) struct Frame {
     pub(crate) mark: usize,
@@ -21,14 +21,14 @@ pub(crate) struct Frame {
     pub(crate) piece: Option<Fragment>,
 }
 
-/// What was read of a pattern: the innermost open group, and those that it stands in, the innermost first.
+/// What was read of a pattern: the innermost open group, and those around it, the innermost first.
 #[derive(Drop)]
 pub(crate) struct Reader {
     pub(crate) inner: Frame,
     pub(crate) outer: LinkedList<Frame>,
 }
 
-/// A branch and the piece after it, if there is one.
+/// A branch and the piece that ends it, if there is one.
 fn with_piece(branch: Fragment, piece: Option<Fragment>) -> Result<Fragment, AllocError>
     ensures { (e : Expression) → (p : Option Expression) → Stands branch e → StandsIfSome piece p → IfOk result (λ f. Stands f (with_piece e p)) }
 {
@@ -38,7 +38,7 @@ fn with_piece(branch: Fragment, piece: Option<Fragment>) -> Result<Fragment, All
     }
 }
 
-/// Branches and the one after them, if there are any.
+/// The branches before, if there are any, or this one.
 fn with_branch(
     alloc: Global,
     branches: Option<Fragment>,
@@ -55,7 +55,7 @@ fn with_branch(
 impl Frame {
     ghost use Rattle.posix_regex.specs.Reader.{StandsFor};
 
-    /// A group whose mark stands at a place, before it is read.
+    /// A group whose mark is at the place `mark`, with nothing in it.
     fn at(alloc: Global, mark: usize) -> Frame
         ensures { StandsFor result (group_at mark) }
     {
@@ -75,7 +75,7 @@ impl Frame {
         with_branch(alloc, self.branches, branch)
     }
 
-    /// The group with one more atom.
+    /// Adds an atom.
     fn add_atom(self, atom: Fragment) -> Result<Frame, AllocError>
         ensures { (e : Expression) → (g : Group) → Stands atom e → StandsFor self g → IfOk result (λ f. StandsFor f (add_atom e g)) }
     {
@@ -88,7 +88,7 @@ impl Frame {
         })
     }
 
-    /// The group after a bar.
+    /// Ends a branch.
     fn add_bar(self, alloc: Global) -> Result<Frame, AllocError>
         ensures { (g : Group) → StandsFor self g → IfOk result (λ f. StandsFor f (add_bar g)) }
     {
@@ -102,7 +102,7 @@ impl Frame {
         })
     }
 
-    /// The group with its last piece repeated, if there is one.
+    /// Repeats the last piece.
     fn add_suffix(
         self,
         alloc: Global,
@@ -125,7 +125,7 @@ impl Frame {
     }
 }
 
-/// The last piece repeated, if there is one.
+/// The piece repeated; without a piece, a bad repetition.
 fn repeat_piece(
     alloc: Global,
     least: usize,
@@ -161,7 +161,7 @@ impl Reader {
         }
     }
 
-    /// One atom more, if there was memory for it.
+    /// Adds an atom, if there was memory for it.
     fn add_atom(self, atom: Result<Fragment, AllocError>) -> Result<Reader, RegexCause>
         ensures { (e : Expression) → (place : ℕ) → (read : Reading) → IfOk atom (λ f. Stands f e) → StandsForAll self read → Adds result (add_token place (Atom e) read) }
     {
@@ -177,7 +177,7 @@ impl Reader {
         }
     }
 
-    /// The last piece repeated.
+    /// Repeats the last piece.
     fn add_suffix(
         self,
         alloc: Global,
@@ -195,7 +195,7 @@ impl Reader {
         }
     }
 
-    /// One branch more begins.
+    /// Ends a branch.
     fn add_bar(self, alloc: Global) -> Result<Reader, RegexCause>
         ensures { (place : ℕ) → (read : Reading) → StandsForAll self read → Adds result (add_token place Bar read) }
     {
@@ -208,7 +208,7 @@ impl Reader {
         }
     }
 
-    /// A group begins at a place.
+    /// Opens a group whose mark is at the place.
     fn open(self, alloc: Global, place: usize) -> Result<Reader, RegexCause>
         ensures { (read : Reading) → StandsForAll self read → Adds result (add_token place Open read) }
     {
@@ -225,7 +225,7 @@ impl Reader {
         }
     }
 
-    /// The innermost group ends.
+    /// Closes the innermost group.
     fn close(self, alloc: Global) -> Result<Reader, RegexCause>
         ensures { (place : ℕ) → (read : Reading) → StandsForAll self read → Adds result (add_token place Close read) }
     {
@@ -242,7 +242,7 @@ impl Reader {
         }
     }
 
-    /// One token more, which stands at a place.
+    /// Adds the token at a place.
     pub(crate) fn add_token(
         self,
         alloc: Global,
@@ -262,7 +262,7 @@ impl Reader {
         }
     }
 
-    /// The whole pattern, where no group is open.
+    /// The whole pattern; an open group is a fault.
     pub(crate) fn finish(self, alloc: Global) -> Result<Fragment, RegexFault>
         ensures { (read : Reading) → StandsForAll self read → MatchResult result
             (λ f. IsOkAnd (finish read.inner read.outer) (λ e. Stands f e))

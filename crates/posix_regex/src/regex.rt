@@ -1,51 +1,70 @@
 //! Regular expressions.
-ghost use Rattle.std.specs.Prelude.{◌≡◌, ◌⊎◌, ◌↔◌, ◌+◌, ◌*◌, ◌≤◌, Err, length, IfOk, IsOkAnd, IsTrue, MatchResult};
+ghost use Rattle.std.specs.Prelude.{◌≡◌, ◌⊎◌, ◌↔◌, ◌+◌, ◌*◌, ◌≤◌, ℕ, List, Err, length, IfOk, IsOkAnd, IsTrue, MatchResult};
 ghost use Rattle.posix_regex.specs.Expression.{Expression, Found, size};
 ghost use Rattle.posix_regex.specs.Pattern.{expression_at};
+ghost use Rattle.posix_regex.specs.Literal.{IsLiteral, Occurs, literal_of};
 ghost use Rattle.posix_regex.specs.Program.{items_of};
 ghost use Rattle.posix_regex.specs.Reader.{no_memory};
 
 use crate::fault::{RegexCause, RegexFault};
 use crate::fragment::MAX_SIZE;
+use crate::literal::literal;
 use crate::pattern::read_pattern;
 use crate::search::search;
 use crate::state_set::StateSet;
 use crate::states::States;
 use byte_class::Steps;
+use memchr::memmem::Finder;
 use std::alloc::{AllocError, Global};
 use std::marker::Model;
 use std::sync::ledger::Ledger;
 
-/// A regular expression over bytes, after POSIX (Base Definitions, "Regular Expressions"), as items that lead on to one
-/// another, with the sets that a search fills. There are no back-references, collating symbols or equivalence classes, and no
-/// escapes of letters or digits.
+/// A regular expression over bytes, after POSIX (Base Definitions, "Regular Expressions"), with what a search of a text
+/// fills. It has no back-references, collating symbols or equivalence classes, and no escapes of letters or digits.
 #[derive(Drop)]
 pub struct Regex {
     states: States,
+    finder: Option<Finder<'static>>,
     reached: StateSet,
     following: StateSet,
 }
 
 impl Model for Regex {
-    ghost use Rattle.std.specs.Prelude.{◌≡◌, ◌+◌, List, length};
-    ghost use Rattle.posix_regex.specs.Program.{Item};
+    ghost use Rattle.std.specs.Prelude.{◌≡◌, ◌+◌, length};
+    ghost use Rattle.posix_regex.specs.Literal.{AreNeeded, Compiled, literal_of};
 
-    ghost Value = { List Item };
+    ghost Value = { Compiled };
 
-    ghost view = { λ r. r.states };
+    ghost view = { λ r. record { items = r.states; literal = literal_of r.finder } };
 
-    ghost invariant = { λ r. (r.reached.width ≡ length r.states + 1) × (r.following.width ≡ length r.states + 1) };
+    ghost invariant = { λ r. (r.reached.width ≡ length r.states + 1) × (r.following.width ≡ length r.states + 1)
+        × AreNeeded r.states (literal_of r.finder) };
+}
+
+/// What finds the bytes, if there are any.
+fn finder_of(alloc: Global, bytes: &[u8]) -> Result<Option<Finder<'static>>, AllocError>
+    ensures { IfOk result (λ finder. literal_of finder ≡ bytes.now) }
+{
+    if bytes.is_empty() {
+        return Ok(None);
+    }
+    let finder = Finder::new(bytes).into_owned(alloc)?;
+    Ok(Some(finder))
 }
 
 /// The expression of some states, with empty sets.
 fn with_sets(alloc: Global, states: States) -> Result<Regex, AllocError>
-    ensures { IfOk result (λ regex. regex ≡ states) }
+    ensures items { IfOk result (λ regex. regex.items ≡ states) }
+    ensures literal { IfOk result (λ regex. IsLiteral regex.items regex.literal) }
 {
     let width = states.len() + 1;
     let reached = StateSet::new(alloc, width)?;
     let following = StateSet::new(alloc, width)?;
+    let bytes = literal(alloc, &states)?;
+    let finder = finder_of(alloc, &bytes)?;
     Ok(Regex {
         states,
+        finder,
         reached,
         following,
     })
@@ -61,9 +80,10 @@ impl Regex {
         fold: bool,
     ) -> Result<Regex, RegexFault>
         ensures value { MatchResult result
-            (λ regex. IsOkAnd (expression_at extended fold pattern.now) (λ e. regex ≡ items_of e))
+            (λ regex. IsOkAnd (expression_at extended fold pattern.now) (λ e. regex.items ≡ items_of e))
             (λ fault. (fault ≡ no_memory) ⊎ (expression_at extended fold pattern.now ≡ Err fault)) }
-        ensures bound { IfOk result (λ regex. IfOk (expression_at extended fold pattern.now) (λ e. length regex ≤ 2 * size e)) }
+        ensures bound { IfOk result (λ regex. IfOk (expression_at extended fold pattern.now) (λ e. length regex.items ≤ 2 * size e)) }
+        ensures literal { IfOk result (λ regex. IsLiteral regex.items regex.literal) }
     {
         let whole = match read_pattern(alloc, pattern, extended, fold) {
             Ok(whole) => whole,
@@ -84,14 +104,18 @@ impl Regex {
         }
     }
 
-    /// Whether the expression spans some part of the text. It takes no memory, and goes through the text
-    /// once.
+    /// Whether the expression spans some part of the text. It takes no memory, and goes through the text once, with no
+    /// step where the literal does not occur.
     pub fn matches<L: Ledger>(&mut self, text: &[u8], steps: &mut Steps<L>) -> bool
-        ensures value { (e : Expression) → self.old ≡ items_of e → (IsTrue result ↔ Found e text.now) }
+        ensures value { (e : Expression) → self.old.items ≡ items_of e → (IsTrue result ↔ Found e text.now) }
         ensures same { self.new ≡ self.old }
         ensures rising { steps.old ≤ steps.new }
-        ensures bound { steps.new ≤ steps.old + (length self.old + 1) * (length text.now + 1) }
+        ensures bound { steps.new ≤ steps.old + (length self.old.items + 1) * (length text.now + 1) }
+        ensures without { (Occurs text.now self.old.literal → ⊥) → steps.new ≡ steps.old }
     {
+        if lacks(&self.finder, text) {
+            return false;
+        }
         search(
             &self.states,
             text,
@@ -103,8 +127,30 @@ impl Regex {
 
     /// How many items the expression has.
     pub fn item_count(&self) -> usize
-        ensures { result ≡ length self.now }
+        ensures { result ≡ length self.now.items }
     {
         self.states.len()
+    }
+
+    /// Bytes that every text holds in which the expression is found, none where none are known.
+    pub fn literal(&self) -> &[u8]
+        ensures value { result.now ≡ self.now.literal }
+        ensures needed { (e : Expression) → self.now.items ≡ items_of e → (text : List ℕ) → Found e text → Occurs text result.now }
+    {
+        match &self.finder {
+            Some(finder) => finder.needle(),
+            None => &[],
+        }
+    }
+}
+
+/// Whether the text lacks the bytes of the finder.
+#[inline(always)]
+fn lacks(finder: &Option<Finder<'static>>, text: &[u8]) -> bool
+    ensures { IsTrue result ↔ (Occurs text.now (literal_of finder.now) → ⊥) }
+{
+    match finder {
+        Some(finder) => finder.find(text).is_none(),
+        None => false,
     }
 }

@@ -1,4 +1,4 @@
-//! The search of a text, by sets of states.
+//! Searches a text, by sets of states.
 ghost use Rattle.std.specs.Prelude.{◌≡◌, ◌⊎◌, ◌<◌, ◌≤◌, ◌+◌, ℕ, [], length, slice_get, slice_index, Contains, IsTrue, IsFalse, ◌↔◌, ◌*◌};
 ghost use Rattle.posix_regex.specs.Lead.{LeadsTo};
 ghost use Rattle.posix_regex.specs.Moves.{Leads, Reached, ReachesEnd};
@@ -9,7 +9,7 @@ use byte_class::Steps;
 use std::mem;
 use std::sync::ledger::Ledger;
 
-/// Inserts what a state leads to into the set of this place and into that of the next.
+/// Inserts what a state leads to into the set of this place or of the next.
 #[inline(always)]
 fn insert(lead: Lead, now: &mut StateSet, next: &mut StateSet)
     requires { now.old.width ≡ next.old.width }
@@ -34,8 +34,7 @@ fn insert(lead: Lead, now: &mut StateSet, next: &mut StateSet)
     }
 }
 
-/// Goes through the states that are reached at a place, with those that they lead to there. Whether the end is
-/// reached.
+/// Follows the states reached at a place, and those that they lead to there, and tells whether the end is reached.
 fn spread<L: Ledger>(
     states: &States,
     text: &[u8],
@@ -74,7 +73,7 @@ fn spread<L: Ledger>(
     false
 }
 
-/// Whether the states come to their end somewhere in the text.
+/// Whether the states reach their end somewhere in the text.
 pub(crate) fn search<L: Ledger>(
     states: &States,
     text: &[u8],

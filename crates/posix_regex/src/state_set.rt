@@ -1,5 +1,5 @@
-//! Sets of states, with their members in the order in which they came.
-ghost use Rattle.std.specs.Prelude.{◌≡◌, ◌⊎◌, ◌≤◌, ◌<◌, ◌++◌, ◌∷◌, [], ℕ, length, slice_index, slice_index_or, false, Contains, IfOk};
+//! Sets of states, which keep the order in which their members came.
+ghost use Rattle.std.specs.Prelude.{◌≡◌, ◌⊎◌, ◌≤◌, ◌<◌, ◌++◌, ◌∷◌, [], ℕ, length, slice_index, slice_index_or, false, true, Contains, IfOk};
 
 use std::alloc::{AllocError, Global};
 use std::marker::Model;
@@ -23,13 +23,15 @@ impl Model for StateSet {
     ghost invariant = { λ s. AreMarked s.order.items s.count s.marks.items };
 }
 
-/// Takes every mark away.
-fn unmark(marks: &mut Vec<bool>)
+/// Clears the marks of the listed states, the only ones marked.
+fn unmark(marks: &mut Vec<bool>, listed: &[usize])
+    requires below { (s : ℕ) → Contains listed.now s → s < length marks.old.items }
+    requires all { (s : ℕ) → s < length marks.old.items → slice_index_or marks.old.items s false ≡ true → Contains listed.now s }
     ensures len { length marks.new.items ≡ length marks.old.items }
-    ensures none { (k : ℕ) → slice_index_or marks.new.items k false ≡ false }
+    ensures none { (s : ℕ) → slice_index_or marks.new.items s false ≡ false }
 {
-    for k in 0..marks.len() {
-        marks[k] = false;
+    for k in 0..listed.len() {
+        marks[listed[k]] = false;
     }
 }
 
@@ -47,7 +49,7 @@ impl StateSet {
         })
     }
 
-    /// How many states the set has.
+    /// How many states are in the set.
     #[inline(always)]
     pub(crate) fn len(&self) -> usize
         ensures value { result ≡ length self.now.order }
@@ -56,7 +58,7 @@ impl StateSet {
         self.count
     }
 
-    /// The state that came at a place.
+    /// The state at a place of that order.
     #[inline(always)]
     pub(crate) fn at(&self, place: usize) -> usize
         requires { place < length self.now.order }
@@ -66,16 +68,16 @@ impl StateSet {
         self.order[place]
     }
 
-    /// No state.
+    /// Empties the set, in as many steps as it has members.
     pub(crate) fn clear(&mut self)
         ensures width { self.new.width ≡ self.old.width }
         ensures empty { self.new.order ≡ [] }
     {
-        unmark(&mut self.marks);
+        unmark(&mut self.marks, &self.order[..self.count]);
         self.count = 0;
     }
 
-    /// The set with a state, if that is below the number.
+    /// Inserts a state, if it is below the number.
     pub(crate) fn insert(&mut self, state: usize)
         ensures width { self.new.width ≡ self.old.width }
         ensures order { (self.new.order ≡ self.old.order) ⊎ ((state < self.old.width) × (self.new.order ≡ self.old.order ++ state ∷ [])) }

@@ -10,9 +10,8 @@ use std::alloc::{AllocError, Global};
 use std::marker::Model;
 use std::sync::ledger::Ledger;
 
-/// A state, which takes a byte of the set, asks for the first or the last place, or leads on: a fork to
-/// the next state and to one further on, a way back to the next and to one before, a skip to one further
-/// on alone.
+/// A state takes a byte of its set, asks for the start or the end of the text, or leads on without a byte: a fork to the
+/// next state and to one so many further, `Back` to the next and to one so many before, a skip to one so many further.
 #[derive(Clone, Copy)]
 pub(crate) enum State {
     Set(ByteSet),
@@ -23,8 +22,7 @@ pub(crate) enum State {
     Skip(usize),
 }
 
-/// What a state leads to at a place of the text: nothing, one or two states at that place, or one at the
-/// next place.
+/// What a state leads to: nothing, one or two states at the same place of the text, or one at the next place.
 #[derive(Clone, Copy)]
 pub(crate) enum Lead {
     Nowhere,
@@ -33,7 +31,7 @@ pub(crate) enum Lead {
     Further(usize),
 }
 
-/// What a state that takes a byte of the set leads to at a place of the text.
+/// What a state that takes a byte of the set leads to.
 #[inline(always)]
 fn lead_of_set(set: ByteSet, s: usize, text: &[u8], at: usize) -> Lead
     requires { s < 2 ^ 63 }
@@ -48,7 +46,7 @@ fn lead_of_set(set: ByteSet, s: usize, text: &[u8], at: usize) -> Lead
     Lead::Further(s + 1)
 }
 
-/// What a state of the row leads to at a place of the text.
+/// What the state number `s` leads to at a place of the text.
 #[inline(always)]
 fn lead_of(state: State, s: usize, text: &[u8], at: usize) -> Lead
     requires state { s < 2 ^ 63 }
@@ -83,7 +81,7 @@ fn lead_of(state: State, s: usize, text: &[u8], at: usize) -> Lead
     }
 }
 
-/// States in a row.
+/// States in a row, the compiled form of an expression.
 #[derive(Drop)]
 pub(crate) struct States {
     kept: Vec<State>,
@@ -101,7 +99,7 @@ impl Model for States {
 }
 
 impl States {
-    /// No state.
+    /// An empty row.
     pub(crate) fn new(alloc: Global) -> States
         ensures { result ≡ [] }
     {
@@ -130,14 +128,14 @@ impl States {
 
     /// The state at a place.
     #[inline(always)]
-    fn at(&self, place: usize) -> State
+    pub(crate) fn at(&self, place: usize) -> State
         requires { place < length self.now }
         ensures { slice_get self.now place ≡ Some (item_of result) }
     {
         self.kept[place]
     }
 
-    /// What the state leads to at a place of the text. This is one step.
+    /// What the state number `s` leads to at a place of the text, which counts as one step.
     #[inline(always)]
     pub(crate) fn lead<L: Ledger>(
         &self,
@@ -156,7 +154,7 @@ impl States {
         lead_of(self.at(s), s, text, at)
     }
 
-    /// Adds other states at the end.
+    /// Appends another row.
     pub(crate) fn append(&mut self, other: &States) -> Result<(), AllocError>
         ensures { OnOk result (self.new ≡ self.old ++ other.now) }
     {
@@ -166,7 +164,7 @@ impl States {
         Ok(())
     }
 
-    /// Adds other states at the end, so many times.
+    /// Appends another row `count` times.
     pub(crate) fn append_times(&mut self, count: usize, other: &States) -> Result<(), AllocError>
         ensures { OnOk result (self.new ≡ self.old ++ copies count other.now) }
     {
@@ -177,7 +175,7 @@ impl States {
     }
 }
 
-/// States that may be passed over.
+/// The states, or none of them.
 fn optional(alloc: Global, states: &States) -> Result<States, AllocError>
     ensures { IfOk result (λ s. s ≡ optional states.now) }
 {
@@ -187,7 +185,7 @@ fn optional(alloc: Global, states: &States) -> Result<States, AllocError>
     Ok(all)
 }
 
-/// States that may come again.
+/// The states, once or more.
 fn again(alloc: Global, states: &States) -> Result<States, AllocError>
     ensures { IfOk result (λ s. s ≡ again states.now) }
 {
@@ -197,7 +195,7 @@ fn again(alloc: Global, states: &States) -> Result<States, AllocError>
     Ok(all)
 }
 
-/// States that come at least so many times.
+/// The states, at least `least` times.
 pub(crate) fn at_least(alloc: Global, least: usize, states: &States) -> Result<States, AllocError>
     ensures { IfOk result (λ s. s ≡ at_least least states.now) }
 {
@@ -211,7 +209,7 @@ pub(crate) fn at_least(alloc: Global, least: usize, states: &States) -> Result<S
     Ok(all)
 }
 
-/// States that come so many times, and at most so many times more.
+/// The states, from `least` to `least + more` times.
 pub(crate) fn between(
     alloc: Global,
     least: usize,

@@ -275,6 +275,49 @@ nnnn ^[[:digit:]]*$ 12a
 yyyy b abc
 nnnn d abc";
 
+// Extended expressions, each with the literal that is read off it without and with folding, where `-` is none.
+const LITERALS: &str = r"- - a|b
+- - (abc)*
+a - ab*c
+cd - ab*cd
+abc - (abc)+
+abc - (a|b|abc)abc
+aaab - a{3}b
+bc - a?bc
+ab - [a]b
+/usr/ / ^/usr/
+lib . lib[a-z]+\.so(\.[0-9]+)*$
+x/1/2y /1/2 x/1/2y
+baz7 7 (foo|bar)baz7
+- - (7|b)";
+
+#[test]
+fn literals_are_read_off_expressions(rt: HostRuntime) -> Result<(), Fail> {
+    let alloc = rt.alloc();
+    for row in LITERALS.lines() {
+        assert!(rt; has_literals(alloc, row), "{row}");
+    }
+    Ok(())
+}
+
+fn has_literals(alloc: Global, row: &str) -> bool {
+    let Some((exact, rest)) = row.split_once(' ') else {
+        return false;
+    };
+    let Some((folded, pattern)) = rest.split_once(' ') else {
+        return false;
+    };
+    has_literal(alloc, pattern, false, exact) && has_literal(alloc, pattern, true, folded)
+}
+
+fn has_literal(alloc: Global, pattern: &str, fold: bool, literal: &str) -> bool {
+    let expected = if literal == "-" { "" } else { literal };
+    match Regex::read(alloc, pattern.as_bytes(), true, fold) {
+        Ok(regex) => regex.literal() == expected.as_bytes(),
+        Err(_) => false,
+    }
+}
+
 #[test]
 fn expressions_find_worked_texts(rt: HostRuntime) -> Result<(), Fail> {
     let wrong = first_missed(rt.alloc(), FOUND);

@@ -11,13 +11,13 @@ use crate::interval::read_interval;
 use crate::lex::{Meaning, meaning_at};
 use byte_class::ByteSet;
 
-/// A token of a pattern, as it is kept.
+/// A token of a pattern.
 #[derive(Clone, Copy)]
 pub(crate) enum Kept {
     Set(ByteSet),
     Start,
     End,
-    /// What stands before repeats: so many times, and then any number of times more or at most so many.
+    /// The piece before repeats: at least so many times and, where a second number is given, at most so many more.
     Suffix(usize, Option<usize>),
     Bar,
     Open,
@@ -40,7 +40,7 @@ fn any_byte() -> ByteSet
     ByteSet::all()
 }
 
-/// The suffix whose interval stands in the text, after an opening of so many bytes.
+/// The suffix whose interval is at the head of the text, after an opening of `taken` bytes.
 #[tactic(auto, unfolding(crate::specs::Token::token_of_meaning, crate::specs::Token::interval_token))]
 fn read_suffix(
     extended: bool,
@@ -62,7 +62,7 @@ fn read_suffix(
     }
 }
 
-/// The set whose bracket expression stands in the text, but for its `[`.
+/// The set of the bracket expression whose `[` comes right before the text.
 fn read_set(fold: bool, text: &[u8]) -> Result<(Kept, usize), (usize, RegexCause)>
     requires { length text.now + 1 < 2 ^ 63 }
     ensures value { (extended : Bool) → (taken : ℕ) → MatchResult result
@@ -78,7 +78,7 @@ fn read_set(fold: bool, text: &[u8]) -> Result<(Kept, usize), (usize, RegexCause
     }
 }
 
-/// The token that some bytes begin, before the text.
+/// The token whose first `taken` bytes, right before the text, have this meaning.
 #[tactic(auto, unfolding(crate::specs::Token::token_of_meaning))]
 fn token_of_meaning(
     extended: bool,
@@ -112,7 +112,7 @@ fn token_of_meaning(
     }
 }
 
-/// The token at the head of a text, and how many bytes it takes. A fault is placed from the first byte.
+/// The token at the head of the text, and how many bytes it takes. The place of a fault counts from that head.
 #[tactic(auto, unfolding(crate::specs::Token::token_at))]
 pub(crate) fn read_token(
     extended: bool,
@@ -133,7 +133,7 @@ pub(crate) fn read_token(
     token_of_meaning(extended, fold, meaning, taken, &text[taken..])
 }
 
-/// Whether the pattern or a group has just begun after the token.
+/// Whether a group has just begun after the token.
 #[tactic(auto, unfolding(crate::specs::Token::begins_after))]
 pub(crate) fn begins_after(token: Kept) -> bool
     ensures { result ≡ begins_after (token_of token) }
@@ -141,7 +141,7 @@ pub(crate) fn begins_after(token: Kept) -> bool
     matches!(token, Kept::Open)
 }
 
-/// Whether it has begun with at most an anchor.
+/// Whether nothing but perhaps an anchor stands between there and the beginning of the pattern or a group.
 #[tactic(auto, unfolding(crate::specs::Token::bare_after))]
 pub(crate) fn bare_after(token: Kept) -> bool
     ensures { result ≡ bare_after (token_of token) }

@@ -12,10 +12,9 @@ use Rattle.tree_scan.specs.declared.rules.ScanFault.TheVariants.{RootMissing, Tr
 use Rattle.tree_scan.specs.Plan.{Plan}
 use Rattle.tree_scan.specs.Reach.{reached, tried}
 use Rattle.tree_scan.specs.Records.{Record, unvouched}
-use Rattle.tree_scan.specs.Scans.{AskedOf, Exceeded, Found, Stopped, WhereKnown, WrotePart}
+use Rattle.tree_scan.specs.Scans.{AskedOf, Exceeded, Found, Stopped, StoppedAt, WhereKnown, WrotePart}
 use Rattle.tree_scan.specs.Steps.{priced_candidates}
 use Rattle.tree_scan.specs.Stops.{HasWide, ListsMore, StopsAt, StopsAtWide, StopsWide, Taken, Whole, WroteBlocks, shown_of, taken}
-use Rattle.tree_scan.specs.Walks.{is_whole_after}
 use Rattle.tree_scan.proofs.Loop.{parts_none, whole_none}
 
 abbrev Answer : Type 0
@@ -33,12 +32,14 @@ pub stopped_by : (r : Answer) (told : Option Dirs) (records : Option (List Recor
 stopped_by (Ok counts) told records limits all now plan old new part tree tree_at names names_at directories directories_at = tt
 stopped_by (Err fault) told records limits all now plan old new part tree tree_at names names_at directories directories_at = λ dirs is honest. record {
   wrote = part dirs is honest;
-  whole_tree = λ was. tree (ap Err was) dirs is honest;
-  stops = λ was. tree_at (ap Err was) dirs is honest;
-  whole_names = λ was. names (ap Err was) dirs is honest;
-  stops_wide = λ was. names_at (ap Err was) dirs is honest;
-  whole_directories = λ was. directories (ap Err was) dirs is honest;
-  stops_full = λ was. directories_at (ap Err was) dirs is honest;
+  at = record {
+    whole_tree = λ was. tree (ap Err was) dirs is honest;
+    stops = λ was. tree_at (ap Err was) dirs is honest;
+    whole_names = λ was. names (ap Err was) dirs is honest;
+    stops_wide = λ was. names_at (ap Err was) dirs is honest;
+    whole_directories = λ was. directories (ap Err was) dirs is honest;
+    stops_full = λ was. directories_at (ap Err was) dirs is honest;
+  };
 }
 
 pub found_by : (r : Answer) (told : Option Dirs) (limits : Limits) (root : List ℕ) → (IsErrOf r RootMissing → (dirs : Dirs) → told ≡ Some dirs → get dirs root ≡ None)
@@ -94,29 +95,42 @@ is_bare OutOfMemory = true
 other : {P : Type 0} (kind : ScanFault → Bool) (fault x : ScanFault) → kind fault ≡ true → fault ≡ x → kind x ≡ false → P
 other kind fault x so was not = absurd (true≢false (sym so ∙ ap kind was ∙ not))
 
+-- nor of the tree
+abbrev pub is_silent : ScanFault → Bool
+is_silent RootMissing = true
+is_silent TreeFault = false
+is_silent WriteFault = true
+is_silent TooManyNames = false
+is_silent TooManyDirectories = false
+is_silent OutOfMemory = true
+
 -- before a limit was passed, where nothing was written
 pub stopped_none : (fault : ScanFault) (limits : Limits) (records : List Record) (all : Bool) (now : Moment) (dirs : Dirs) (plan : Plan) (u e : Option (List ℕ)) → is_within fault ≡ true → Stopped fault limits records all now dirs plan (taken u e) (taken u e)
 stopped_none fault limits records all now dirs plan u e so = record {
   wrote = parts_none dirs plan now u e;
-  whole_tree = λ was. whole_none dirs plan now u e;
-  stops = λ was. inl (record { blocks = Appends-nil u; lined = Appends-nil e });
-  whole_names = λ was. other is_within fault TooManyNames so was refl;
-  stops_wide = λ was. other is_within fault TooManyNames so was refl;
-  whole_directories = λ was. other is_within fault TooManyDirectories so was refl;
-  stops_full = λ was. other is_within fault TooManyDirectories so was refl;
+  at = record {
+    whole_tree = λ was. whole_none dirs plan now u e;
+    stops = λ was. inl (record { blocks = Appends-nil u; lined = Appends-nil e });
+    whole_names = λ was. other is_within fault TooManyNames so was refl;
+    stops_wide = λ was. other is_within fault TooManyNames so was refl;
+    whole_directories = λ was. other is_within fault TooManyDirectories so was refl;
+    stops_full = λ was. other is_within fault TooManyDirectories so was refl;
+  };
 }
 
--- after a failed write
-pub stopped_write : (limits : Limits) (records : List Record) (all : Bool) (now : Moment) (dirs : Dirs) (plan : Plan) (old new : Taken) → WrotePart dirs plan now old new → Stopped WriteFault limits records all now dirs plan old new
-stopped_write limits records all now dirs plan old new part = record {
-  wrote = part;
-  whole_tree = λ was. absurd (true≢false (sym (ap is_whole_after was)));
-  stops = λ was. absurd (true≢false (sym (ap is_whole_after was)));
-  whole_names = λ was. other is_within WriteFault TooManyNames refl was refl;
-  stops_wide = λ was. other is_within WriteFault TooManyNames refl was refl;
-  whole_directories = λ was. other is_within WriteFault TooManyDirectories refl was refl;
-  stops_full = λ was. other is_within WriteFault TooManyDirectories refl was refl;
+-- a fault that tells nothing of where the scan was
+pub at_silent : (fault : ScanFault) (limits : Limits) (records : List Record) (all : Bool) (now : Moment) (dirs : Dirs) (plan : Plan) (old new : Taken) → is_silent fault ≡ true → StoppedAt fault limits records all now dirs plan old new
+at_silent fault limits records all now dirs plan old new so = record {
+  whole_tree = λ was. other is_silent fault TreeFault so was refl;
+  stops = λ was. other is_silent fault TreeFault so was refl;
+  whole_names = λ was. other is_silent fault TooManyNames so was refl;
+  stops_wide = λ was. other is_silent fault TooManyNames so was refl;
+  whole_directories = λ was. other is_silent fault TooManyDirectories so was refl;
+  stops_full = λ was. other is_silent fault TooManyDirectories so was refl;
 }
+
+pub stopped_write : (limits : Limits) (records : List Record) (all : Bool) (now : Moment) (dirs : Dirs) (plan : Plan) (old new : Taken) → WrotePart dirs plan now old new → Stopped WriteFault limits records all now dirs plan old new
+stopped_write limits records all now dirs plan old new part = record { wrote = part; at = at_silent WriteFault limits records all now dirs plan old new refl }
 
 pub found_none : (fault : ScanFault) (limits : Limits) (root : List ℕ) (dirs : Dirs) → is_bare fault ≡ true → Found fault limits root dirs
 found_none fault limits root dirs so = record {

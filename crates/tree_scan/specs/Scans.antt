@@ -17,6 +17,10 @@ use Rattle.tree_scan.specs.Records.{Honest, Record, known, unvouched}
 use Rattle.tree_scan.specs.Steps.{priced_candidates}
 use Rattle.tree_scan.specs.Stops.{HasWide, LinesFollow, ListsMore, Narrow, StopsAt, StopsAtWide, StopsWide, Taken, Whole, WroteBlocks, shown_of}
 
+-- the limits of a usual run
+abbrev pub usual : Limits
+usual = record { names = 16777216; directories = 4294967295 }
+
 -- What holds of the directories and of the records, where the tree tells its directories and the voucher's records are
 -- honest of them.
 abbrev pub WhereKnown : Option Dirs → Option (List Record) → Plan → (Dirs → List Record → Type 0) → Type 0
@@ -47,16 +51,20 @@ pub record WrotePart (dirs : Dirs) (plan : Plan) (now : Moment) (old new : Taken
   pub lines_part : AppendsPart old.echo new.echo (echo_text dirs plan)
   pub follows : LinesFollow (scan_pieces dirs plan now) old new
 
--- How far a scan came that ended with this fault. After a fault of the tree and after a limit was passed, what was written
+-- Where a scan stopped that ended with this fault. After a fault of the tree and after a limit was passed, what was written
 -- is nothing, or the header and the blocks of the directories before one that was looked up.
-pub record Stopped (fault : ScanFault) (limits : Limits) (records : List Record) (all : Bool) (now : Moment) (dirs : Dirs) (plan : Plan) (old new : Taken) : Type 0 where
-  pub wrote : WrotePart dirs plan now old new
+pub record StoppedAt (fault : ScanFault) (limits : Limits) (records : List Record) (all : Bool) (now : Moment) (dirs : Dirs) (plan : Plan) (old new : Taken) : Type 0 where
   pub whole_tree : fault ≡ TreeFault → Whole dirs plan now old new
   pub stops : fault ≡ TreeFault → StopsAt records limits dirs plan now old new
   pub whole_names : fault ≡ TooManyNames → StopsAtWide dirs plan now limits.names old new
   pub stops_wide : fault ≡ TooManyNames → StopsWide records limits all dirs plan now old new
   pub whole_directories : fault ≡ TooManyDirectories → WroteBlocks plan now (shown_of (take limits.directories (tried dirs plan.pruned plan.root))) old new
   pub stops_full : fault ≡ TooManyDirectories → StopsAt records limits dirs plan now old new
+
+-- what a scan has done that ended with this fault
+pub record Stopped (fault : ScanFault) (limits : Limits) (records : List Record) (all : Bool) (now : Moment) (dirs : Dirs) (plan : Plan) (old new : Taken) : Type 0 where
+  pub wrote : WrotePart dirs plan now old new
+  pub at : StoppedAt fault limits records all now dirs plan old new
 
 -- What the directories lack or have that a fault tells of: the root; a directory of too many names; too many directories.
 pub record Found (fault : ScanFault) (limits : Limits) (root : List ℕ) (dirs : Dirs) : Type 0 where

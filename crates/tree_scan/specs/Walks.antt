@@ -15,7 +15,7 @@ use Rattle.tree_scan.specs.Admitted.{paths_in}
 use Rattle.tree_scan.specs.Blocks.{block, time_of, entries_of, header, lines, pieces}
 use Rattle.tree_scan.specs.Plan.{Plan}
 use Rattle.tree_scan.specs.Reach.{is_open, is_tried, reached, tried}
-use Rattle.tree_scan.specs.Records.{Record, Fitting, is_vouched, unvouched}
+use Rattle.tree_scan.specs.Records.{Record, Fitting, Leaves, is_vouched, unvouched}
 use Rattle.tree_scan.specs.Steps.{here, next}
 use Rattle.tree_scan.specs.Stops.{LinesFollow, Taken}
 
@@ -51,6 +51,12 @@ pub record Breaks (dirs : Dirs) (plan : Plan) (now : Moment) (path : List ℕ) (
 -- how many openings a directory is worth, if it is tried and no record vouches for it
 abbrev pub opens : List Record → Dirs → Plan → List ℕ → ℕ
 opens records dirs plan path = length (unvouched records plan (here dirs (is_tried plan.pruned) path))
+
+-- What a question about a directory leaves of a voucher: its records, its order, and whether its reading is unbroken.
+pub record LeavesVoucher (dir : List ℕ) (records : Option (List Record)) (ordered unbroken : Bool) (records' : Option (List Record)) (ordered' unbroken' : Bool) : Type 0 where
+  pub left : Leaves dir records ordered records' unbroken'
+  pub keeps_order : IsTrue ordered → IsTrue ordered'
+  pub was_unbroken : IsTrue unbroken' → IsTrue unbroken
 
 -- directories that fitting names name were put before the pending paths
 pub record AddsChildren (path : List ℕ) (old new : List (List ℕ)) : Type 0 where

@@ -5,7 +5,8 @@ ghost use Rattle.loc_outside.specs.Causes.{Rose, raised};
 ghost use Rattle.loc_outside.specs.Trees.{Dirs, Dir};
 ghost use Rattle.tree_scan.specs.Admitted.{admitted};
 ghost use Rattle.tree_scan.specs.Blocks.{time_of};
-ghost use Rattle.tree_scan.specs.Records.{answers_all, known, Fitting, Leaves, Relied, is_vouched};
+ghost use Rattle.tree_scan.specs.Records.{answers_all, known, Fitting, Relied, is_vouched};
+ghost use Rattle.tree_scan.specs.Walks.{LeavesVoucher};
 
 use crate::listing::list_names;
 use crate::{ScanFault, Voucher};
@@ -32,9 +33,7 @@ pub(crate) fn find_names<T: Tree, V: Voucher>(
     ensures kept_limit { OnOk result (IsSome (V.records voucher.old) → (dirs : Dirs) (dir : Dir) → T.dirs tree.old ≡ Some dirs → get dirs path.now ≡ Some dir → is_vouched (known (V.records voucher.old)) path.now time device ≡ false → dir.hidden ≡ false → length (entries dir.names) ≤ limit) }
     ensures listed { IsErrOf result ScanFault.TooManyNames → IsTrue (answers_all (V.records voucher.old) (V.ordered voucher.old) (V.unbroken voucher.new)) → is_vouched (known (V.records voucher.old)) path.now time device ≡ false }
     ensures many { IsErrOf result ScanFault.TooManyNames → (dirs : Dirs) (dir : Dir) → T.dirs tree.old ≡ Some dirs → get dirs path.now ≡ Some dir → (dir.hidden ≡ false) × (limit < length (entries dir.names)) }
-    ensures leaves { Leaves path.now (V.records voucher.old) (V.ordered voucher.old) (V.records voucher.new) (V.unbroken voucher.new) }
-    ensures ordered { IsTrue (V.ordered voucher.old) → IsTrue (V.ordered voucher.new) }
-    ensures unbroken { IsTrue (V.unbroken voucher.new) → IsTrue (V.unbroken voucher.old) }
+    ensures leaves { LeavesVoucher path.now (V.records voucher.old) (V.ordered voucher.old) (V.unbroken voucher.old) (V.records voucher.new) (V.ordered voucher.new) (V.unbroken voucher.new) }
     ensures sound { OnOk result (IsTrue (V.sound voucher.new)) }
     ensures voucher_kept { V.kept voucher.old voucher.new }
     ensures openings { T.openings tree.new ≤ T.openings tree.old + 1 }

@@ -3,6 +3,7 @@ ghost use Rattle.std.specs.Prelude.{◌≡◌, IsTrue, ◌==◌, if◌then◌els
 ghost use Rattle.path_order.specs.Path.{is_normal};
 ghost use Rattle.tree_scan.specs.Blocks.{device_in, stamped};
 ghost use Rattle.tree_scan.specs.Plans.{plan_of, has_pruned_name, has_pruned_type};
+ghost use Rattle.tree_scan.specs.Scans.{usual};
 
 use mount_table::Mounts;
 use path_order::{PathBuf, Stamp, base_start, is_recent};
@@ -94,8 +95,7 @@ pub struct Limits {
 impl Limits {
     /// The greatest limits, which are those of a usual run.
     pub fn standard() -> Limits
-        ensures names { result.names ≡ 16777216 }
-        ensures directories { result.directories ≡ 4294967295 }
+        ensures { result ≡ usual }
     {
         Limits {
             names: 16_777_216,

@@ -6,9 +6,10 @@ ghost use Rattle.loc_outside.specs.Causes.{Rose, raised};
 ghost use Rattle.loc_outside.specs.Trees.{Dirs, Dir};
 ghost use Rattle.tree_scan.specs.Blocks.{time_of};
 ghost use Rattle.tree_scan.specs.Plans.{plan_of};
-ghost use Rattle.tree_scan.specs.Records.{answers_all, known, Leaves, Relied, is_vouched};
+ghost use Rattle.tree_scan.specs.Records.{answers_all, known, Relied, is_vouched};
+ghost use Rattle.tree_scan.specs.Scans.{Failures};
 ghost use Rattle.tree_scan.specs.Stops.{taken};
-ghost use Rattle.tree_scan.specs.Walks.{standing, Passes, Breaks, Counted, AddsChildren, is_whole_after};
+ghost use Rattle.tree_scan.specs.Walks.{LeavesVoucher, standing, Passes, Breaks, Counted, AddsChildren, is_whole_after};
 
 use crate::children::push_children;
 use crate::finding::find_names;
@@ -32,8 +33,7 @@ pub(crate) fn visit<T: Tree, V: Voucher, D: Sink, P: Sink>(
     names: &mut NameList,
     progress: &mut Progress,
 ) -> Result<(), ScanFault>
-    requires limits { limits.now.names ≤ 16777216 }
-    requires directories { limits.now.directories ≤ 4294967295 }
+    requires limits { (limits.now.names ≤ 16777216) × (limits.now.directories ≤ 4294967295) }
     requires tried { progress.old.tried ≤ limits.now.directories }
     requires counted { Counted progress.old }
     requires sound { IsTrue (V.sound voucher.old) }
@@ -57,18 +57,12 @@ pub(crate) fn visit<T: Tree, V: Voucher, D: Sink, P: Sink>(
     ensures within { progress.new.tried ≤ limits.now.directories }
     ensures counted { OnOk result (Counted progress.new) }
     ensures adds { OnOk result (AddsChildren path.old progress.old.pending progress.new.pending) }
-    ensures leaves { Leaves path.old (V.records voucher.old) (V.ordered voucher.old) (V.records voucher.new) (V.unbroken voucher.new) }
-    ensures ordered { IsTrue (V.ordered voucher.old) → IsTrue (V.ordered voucher.new) }
-    ensures unbroken { IsTrue (V.unbroken voucher.new) → IsTrue (V.unbroken voucher.old) }
+    ensures leaves { LeavesVoucher path.old (V.records voucher.old) (V.ordered voucher.old) (V.unbroken voucher.old) (V.records voucher.new) (V.ordered voucher.new) (V.unbroken voucher.new) }
     ensures sound { OnOk result (IsTrue (V.sound voucher.new)) }
     ensures voucher_kept { V.kept voucher.old voucher.new }
     ensures openings { T.openings tree.new + progress.old.tried ≤ T.openings tree.old + progress.new.tried }
-    ensures later { T.faults tree.old ≤ T.faults tree.new }
-    ensures fault { IsErrOf result ScanFault.TreeFault → Rose (T.faults tree.old) (T.faults tree.new) }
+    ensures failures { Failures (plan_of rules.now).verbose (IsErrOf result ScanFault.TreeFault) (IsErrOf result ScanFault.WriteFault) (T.faults tree.old) (T.faults tree.new) (D.faults sink.old) (D.faults sink.new) (P.faults echo.old) (P.faults echo.new) }
     ensures kept { T.kept tree.old tree.new }
-    ensures sink_later { D.faults sink.old ≤ D.faults sink.new }
-    ensures echo_later { P.faults echo.old ≤ P.faults echo.new }
-    ensures write_fault { IsErrOf result ScanFault.WriteFault → Rose (D.faults sink.old) (D.faults sink.new) ⊎ IsTrue (plan_of rules.now).verbose × Rose (P.faults echo.old) (P.faults echo.new) }
     ensures sink_kept { D.kept sink.old sink.new }
     ensures echo_kept { P.kept echo.old echo.new }
 {

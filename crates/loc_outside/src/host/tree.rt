@@ -10,6 +10,7 @@ use path_order::{Kind, PathBuf, Stamp};
 use std::fs::{DirEntry, Metadata, ReadDir};
 use std::io::ErrorKind;
 use std::marker::Model;
+use std::os::unix::fs::MetadataExt;
 use std::time::UNIX_EPOCH;
 use std::{fs, io, mem};
 
@@ -53,6 +54,17 @@ fn modified(metadata: &Metadata) -> Stamp {
     }
 }
 
+/// The moment of the last change of the inode, which no call sets back. A moment before 1970 is zero.
+fn changed(metadata: &Metadata) -> Stamp {
+    let Ok(seconds) = u64::try_from(metadata.ctime()) else {
+        return Stamp::zero();
+    };
+    let Ok(nanos) = u32::try_from(metadata.ctime_nsec()) else {
+        return Stamp::zero();
+    };
+    Stamp::new(seconds, nanos).unwrap_or(Stamp::zero())
+}
+
 /// The times of the directory, or None where there is none.
 fn look_up(rt: HostRuntime, dir: &[u8]) -> Result<Option<Times>, Failed> {
     let Some(path) = reachable(dir) else {
@@ -60,10 +72,9 @@ fn look_up(rt: HostRuntime, dir: &[u8]) -> Result<Option<Times>, Failed> {
     };
     match fs::symlink_metadata(&rt, path) {
         Ok(metadata) if metadata.is_dir() => {
-            let modified = modified(&metadata);
             Ok(Some(Times {
-                modified,
-                changed: modified,
+                modified: modified(&metadata),
+                changed: changed(&metadata),
             }))
         }
         Ok(_) => Ok(None),
@@ -146,7 +157,7 @@ fn next_entry(entries: &mut Entries, into: &mut PathBuf) -> Result<Option<Kind>,
 ///
 /// `stat`: a directory that is gone, or that can't be reached (by permission, because what is on the way is no directory,
 /// for a name or path that is too long or not UTF-8, for a loop of links, or a mount that has lost its file system)
-/// isn't there. Nor is a link. The moment of the last change of content stands for both times; one before 1970 is zero.
+/// isn't there. Nor is a link. The times are those of the last change of content and of the inode; one before 1970 is zero.
 ///
 /// `open_dir`: a directory that may not be listed, or may not be reached, is `Hidden`; any other that can't be reached is
 /// `Missing`. A link in the last place is followed, so `stat` is to be asked first.
@@ -265,6 +276,10 @@ impl Tree for HostTree {
 #[cfg(test)]
 mod tests {
     use super::*;
+    use path_order::later;
+    use std::fs::File;
+    use std::process;
+    use std::test::Fail;
 
     // Whether a directory of any tree, of at most 99 names, has directories and files.
     fn kinds<T: Tree>(tree: &mut T, dir: &[u8]) -> Result<(bool, bool), Failed> {
@@ -293,6 +308,25 @@ mod tests {
         assert_eq!(rt; kinds(&mut tree, b"/proc/self/ns"), Ok((false, true)));
         assert_eq!(rt; tree.open_dir(b"/proc/version"), Ok(Listing::Missing));
         assert_eq!(rt; tree.open_dir(b"/nowhere/at/all"), Ok(Listing::Missing));
+    }
+
+    // A modification time is set back, as `touch -d`, `tar` and `rsync -a` do: the later time is still told.
+    #[test]
+    fn a_change_time_is_not_set_back(rt: HostRuntime) -> Result<(), Fail> {
+        let name = format!(in rt.alloc(); "/tmp/host_tree_{}", process::id(rt.process()))?;
+        fs::create_dir(&rt, &name)?;
+        File::open(&rt, &name)?.set_modified(UNIX_EPOCH)?;
+        let times = HostTree::new(rt).stat(name.as_bytes());
+        fs::remove_dir(&rt, &name)?;
+        match times {
+            Ok(Some(times)) => {
+                assert_eq!(rt; times.modified, Stamp::zero());
+                assert!(rt; times.changed != Stamp::zero());
+                assert_eq!(rt; later(times.modified, times.changed), times.changed);
+            }
+            _ => assert!(rt; false),
+        }
+        Ok(())
     }
 
     // A link, a file, what is below a file, nothing, no UTF-8, a byte 0, and a name that is too long.

@@ -1,5 +1,6 @@
 //! The outside in memory: what tests and proofs run over.
 
+mod byte_by_byte;
 mod dir_map;
 mod failing;
 mod files;
@@ -13,6 +14,7 @@ mod slice;
 mod stored;
 mod tree;
 
+pub use byte_by_byte::ByteByByte;
 pub use files::MemFiles;
 pub use gate::MemGate;
 pub use output::MemOutput;

@@ -6,8 +6,8 @@ use Rattle.any_db.proofs.format.look_format.Goals as goal
 pub returns-in_default-clause-none : goal.returns-in_default-clause-none
 returns-in_default-clause-none g c = nothing_given _ c.look.new.self _ _ c.in_default.ensures.took c.in_default.ensures.going.1 c.in_default.ensures.few
 
-pub returns-in_default-clause-unbegun : goal.returns-in_default-clause-unbegun
-returns-in_default-clause-unbegun g c = no_preamble_told _ c.look.new.self _ _ c.in_default.ensures.took c.in_default.ensures.going.1 c.in_default.ensures.few
+pub returns-in_default-clause-refused : goal.returns-in_default-clause-refused
+returns-in_default-clause-refused g c = no_preamble_told _ c.look.new.self _ _ c.in_default.ensures.took c.in_default.ensures.going.1 c.in_default.ensures.few
 
 pub returns-clause-told : goal.returns-clause-told
 returns-clause-told g c =

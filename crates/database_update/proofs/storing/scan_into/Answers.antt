@@ -1,15 +1,18 @@
-use Rattle.std.proofs.Common.{true, ℕ, ◌≡◌, ◌+◌, ◌≤◌, ◌<◌, ap, refl, subst, sym, ◌∙◌, List, [], length, take, Err}
-use Rattle.std.specs.FinMap.{entries}
+use Rattle.std.proofs.Common.{true, ℕ, ◌≡◌, ◌+◌, ◌≤◌, ap, subst, sym, ◌∙◌, arith, List, [], Err}
 use Rattle.std.specs.Io.KnownBytes.{Appends}
-use Rattle.loc_outside.specs.Trees.{Dir}
+use Rattle.tree_scan.specs.declared.rules.Limits.{Limits}
+use Rattle.tree_scan.specs.declared.rules.ScanFault.{ScanFault}
+use Rattle.tree_scan.specs.declared.rules.ScanFault.TheVariants as scan_faults
 use Rattle.tree_scan.specs.Plans.{plan_of}
-use Rattle.tree_scan.specs.Reach.{reached, tried}
-use Rattle.tree_scan.specs.Records.{unvouched}
-use Rattle.tree_scan.specs.Walks.{HasWide, ListsMore, Narrow, StopsAt, StopsAtWide, StopsWide, WroteOf}
+use Rattle.tree_scan.specs.Scans.{Completed, Exceeded, Found, Stopped, usual}
+use Rattle.tree_scan.specs.Stops.{taken}
 use Rattle.database_update.specs.Holding.{pending_in}
 use Rattle.database_update.proofs.HoldingLemmas.{pending_grows}
-use Rattle.database_update.proofs.ScanLemmas.{follows_alike, honest_none, unvouched_all, stop_alike, wide_alike, was_tree_fault, was_many_names, was_many_directories, was_root_missing, whole_alike, stops_alike, wrote_alike}
+use Rattle.database_update.proofs.ScanLemmas.{err_is, honest_none, same_fault, stopped_alike}
 use Rattle.database_update.proofs.storing.scan_into.Goals as goal
+
+pub scan-requires-clause-limits : goal.scan-requires-clause-limits
+scan-requires-clause-limits g c = subst (λ (l : Limits). (l.names ≤ 16777216) × (l.directories ≤ 4294967295)) (sym c.standard.ensures) (omega arith, omega arith)
 
 pub returns-in-Ok-clause-done : goal.returns-in-Ok-clause-done
 returns-in-Ok-clause-done g c = λ dirs told. g.met.O.Output.keeps_held _ _ _ c.scan.ensures.sink_kept (c.in-Ok.ensures.done dirs told (honest_none dirs (plan_of c.args.rules.now)))
@@ -17,77 +20,56 @@ returns-in-Ok-clause-done g c = λ dirs told. g.met.O.Output.keeps_held _ _ _ c.
 pub returns-in-Ok-clause-completed : goal.returns-in-Ok-clause-completed
 returns-in-Ok-clause-completed g c = λ dirs told.
     let plan = plan_of c.args.rules.now in
-    let honest = honest_none dirs plan in
-    let all_tried = unvouched_all plan (tried dirs plan.pruned plan.root) in
-    let all_reached = unvouched_all plan (reached dirs plan.pruned plan.root) in
-    record {
-      echoed = c.in-Ok.ensures.echoed dirs told honest;
-      opened_once = λ few. subst (λ (es : List (List ℕ × Dir)). g.T.Tree.openings c.scan.new.tree ≡ g.T.Tree.openings c.args.tree.now + length es) all_tried (c.in-Ok.ensures.exact dirs told honest refl few);
-      few = subst (λ (n : ℕ). length (tried dirs plan.pruned plan.root) ≤ n) c.standard.ensures.directories (c.in-Ok.ensures.few dirs told honest);
-      narrow = subst (λ (es : List (List ℕ × Dir)). Narrow 16777216 es) all_reached
-          (subst (λ (n : ℕ). Narrow n (unvouched [] plan (reached dirs plan.pruned plan.root))) c.standard.ensures.names (c.in-Ok.ensures.narrow dirs told honest));
-    }
+    subst (λ (l : Limits). Completed l [] true dirs plan c.in-Ok.counts (g.P.Sink.taken c.args.out.now) (g.P.Sink.taken c.scan.new.echo) (g.T.Tree.openings c.args.tree.now) (g.T.Tree.openings c.scan.new.tree)) c.standard.ensures
+    (c.in-Ok.ensures.completed dirs told (honest_none dirs plan))
+
+pub returns-in-Ok-clause-asked_of : goal.returns-in-Ok-clause-asked_of
+returns-in-Ok-clause-asked_of g c = λ dirs told. c.scan.ensures.asked_of dirs told (honest_none dirs (plan_of c.args.rules.now))
+
+pub returns-in-Err-clause-asked_of : goal.returns-in-Err-clause-asked_of
+returns-in-Err-clause-asked_of g c = λ dirs told. c.scan.ensures.asked_of dirs told (honest_none dirs (plan_of c.args.rules.now))
+
+pub returns-in-Ok-clause-openings : goal.returns-in-Ok-clause-openings
+returns-in-Ok-clause-openings g c = subst (λ (l : Limits). g.T.Tree.openings c.scan.new.tree ≤ g.T.Tree.openings c.args.tree.now + l.directories) c.standard.ensures c.scan.ensures.openings
+
+pub returns-in-Err-clause-openings : goal.returns-in-Err-clause-openings
+returns-in-Err-clause-openings g c = subst (λ (l : Limits). g.T.Tree.openings c.scan.new.tree ≤ g.T.Tree.openings c.args.tree.now + l.directories) c.standard.ensures c.scan.ensures.openings
+
+pub returns-in-Err-clause-part : goal.returns-in-Err-clause-part
+returns-in-Err-clause-part g c = λ dirs told.
+    let part = (c.in-Err.ensures.stopped dirs told (honest_none dirs (plan_of c.args.rules.now))).wrote.text in
+    (part.0, part.1, g.met.O.Output.keeps_held _ _ _ c.scan.ensures.sink_kept part.2)
 
 pub returns-in-Err-clause-stopped : goal.returns-in-Err-clause-stopped
-returns-in-Err-clause-stopped g c = λ dirs told.
+returns-in-Err-clause-stopped g c = λ dirs told f is.
     let plan = plan_of c.args.rules.now in
-    let now = c.args.now in
-    let honest = honest_none dirs plan in
-    let said = c.in-Err.ensures in
-    let is = sym c.fault_of_scan.ensures in
-    let written = g.O.Sink.taken c.args.output.now in
-    let written' = g.O.Sink.taken c.scan.new.sink in
-    let echo = g.P.Sink.taken c.args.out.now in
-    let echo' = g.P.Sink.taken c.scan.new.echo in
-    let alike : (bytes : List ℕ) → Appends written written' bytes → Appends (pending_in (g.O.Output.held c.args.output.now)) (pending_in (g.O.Output.held c.scan.new.sink)) bytes
+    let same : c.in-Err.fault ≡ f = same_fault c.in-Err.fault f (sym c.fault_of_scan.ensures ∙ is) in
+    let old = taken (g.O.Sink.taken c.args.output.now) (g.P.Sink.taken c.args.out.now) in
+    let new = taken (g.O.Sink.taken c.scan.new.sink) (g.P.Sink.taken c.scan.new.echo) in
+    let said = subst (λ (l : Limits). Stopped c.in-Err.fault l [] true c.args.now dirs plan old new) c.standard.ensures (c.in-Err.ensures.stopped dirs told (honest_none dirs plan)) in
+    let alike : (bytes : List ℕ) → Appends (g.O.Sink.taken c.args.output.now) (g.O.Sink.taken c.scan.new.sink) bytes → Appends (pending_in (g.O.Output.held c.args.output.now)) (pending_in (g.O.Output.held c.scan.new.sink)) bytes
     = λ bytes grows. pending_grows _ _ bytes (g.met.O.Output.keeps_held _ _ bytes c.scan.ensures.sink_kept grows) in
-    record {
-      echo_part = said.echo_part dirs told honest;
-      whole_tree = λ was. whole_alike dirs plan now _ _ _ _ _ _ alike (said.whole_tree (ap Err (was_tree_fault c.in-Err.fault (is ∙ was))) dirs told honest);
-      stops = λ was. stop_alike [] 16777216 4294967295 dirs plan now _ _ _ _ _ _ alike
-          (subst (λ (n : ℕ). StopsAt [] n 4294967295 dirs plan now written written' echo echo') c.standard.ensures.names
-          (subst (λ (n : ℕ). StopsAt [] c.standard.result.names n dirs plan now written written' echo echo') c.standard.ensures.directories
-          (said.stops (ap Err (was_tree_fault c.in-Err.fault (is ∙ was))) dirs told honest)));
-      whole_names = λ was. stops_alike dirs plan now _ _ _ _ _ _ _ alike
-          (subst (λ (n : ℕ). StopsAtWide dirs plan now n written written' echo echo') c.standard.ensures.names
-          (said.whole_names (ap Err (was_many_names c.in-Err.fault (is ∙ was))) dirs told honest));
-      stops_wide = λ was. wide_alike [] 16777216 4294967295 true dirs plan now _ _ _ _ _ _ alike
-          (subst (λ (n : ℕ). StopsWide [] n 4294967295 true dirs plan now written written' echo echo') c.standard.ensures.names
-          (subst (λ (n : ℕ). StopsWide [] c.standard.result.names n true dirs plan now written written' echo echo') c.standard.ensures.directories
-          (said.stops_wide (ap Err (was_many_names c.in-Err.fault (is ∙ was))) dirs told honest)));
-      whole_directories = λ was. wrote_alike plan now _ _ _ _ _ _ _ alike
-          (subst (λ (n : ℕ). WroteOf plan now (take n (tried dirs plan.pruned plan.root)) written written' echo echo') c.standard.ensures.directories
-          (said.whole_directories (ap Err (was_many_directories c.in-Err.fault (is ∙ was))) dirs told honest));
-      stops_full = λ was. stop_alike [] 16777216 4294967295 dirs plan now _ _ _ _ _ _ alike
-          (subst (λ (n : ℕ). StopsAt [] n 4294967295 dirs plan now written written' echo echo') c.standard.ensures.names
-          (subst (λ (n : ℕ). StopsAt [] c.standard.result.names n dirs plan now written written' echo echo') c.standard.ensures.directories
-          (said.stops_full (ap Err (was_many_directories c.in-Err.fault (is ∙ was))) dirs told honest)));
-    }
+    subst (λ (x : ScanFault). Stopped x usual [] true c.args.now dirs plan (taken (pending_in (g.O.Output.held c.args.output.now)) (g.P.Sink.taken c.args.out.now)) (taken (pending_in (g.O.Output.held c.scan.new.sink)) (g.P.Sink.taken c.scan.new.echo))) same
+    (stopped_alike c.in-Err.fault usual [] true c.args.now dirs plan _ _ _ _ _ _ alike said)
 
 pub returns-in-Err-clause-found : goal.returns-in-Err-clause-found
-returns-in-Err-clause-found g c = λ dirs told.
-    let is = sym c.fault_of_scan.ensures in
-    record {
-      missing = λ was. c.in-Err.ensures.missing (ap Err (was_root_missing c.in-Err.fault (is ∙ was))) dirs told;
-      wide_there = λ was. subst (ListsMore dirs) c.standard.ensures.names (c.in-Err.ensures.many_names (ap Err (was_many_names c.in-Err.fault (is ∙ was))) dirs told);
-      many_there = λ was. subst (λ (n : ℕ). n < length (entries dirs)) c.standard.ensures.directories (c.in-Err.ensures.many_directories (ap Err (was_many_directories c.in-Err.fault (is ∙ was))) dirs told);
-    }
+returns-in-Err-clause-found g c = λ dirs told f is.
+    let same : c.in-Err.fault ≡ f = same_fault c.in-Err.fault f (sym c.fault_of_scan.ensures ∙ is) in
+    subst (λ (x : ScanFault). Found x usual c.args.rules.now.root dirs) same (subst (λ (l : Limits). Found c.in-Err.fault l c.args.rules.now.root dirs) c.standard.ensures (c.in-Err.ensures.found dirs told))
 
 pub returns-in-Err-clause-exceeded : goal.returns-in-Err-clause-exceeded
-returns-in-Err-clause-exceeded g c = λ dirs told.
+returns-in-Err-clause-exceeded g c = λ dirs told f is.
     let plan = plan_of c.args.rules.now in
-    let honest = honest_none dirs plan in
-    let is = sym c.fault_of_scan.ensures in
-    let all = unvouched_all plan (reached dirs plan.pruned plan.root) in
-    record {
-      wide_reached = λ was. subst (λ (es : List (List ℕ × Dir)). HasWide 16777216 es) all
-          (subst (λ (n : ℕ). HasWide n (unvouched [] plan (reached dirs plan.pruned plan.root))) c.standard.ensures.names
-          (c.in-Err.ensures.wide (ap Err (was_many_names c.in-Err.fault (is ∙ was))) dirs told honest refl));
-      many_tried = λ was. subst (λ (n : ℕ). n < length (tried dirs plan.pruned plan.root)) c.standard.ensures.directories
-          (c.in-Err.ensures.many (ap Err (was_many_directories c.in-Err.fault (is ∙ was))) dirs told honest);
-    }
+    let same : c.in-Err.fault ≡ f = same_fault c.in-Err.fault f (sym c.fault_of_scan.ensures ∙ is) in
+    subst (λ (x : ScanFault). Exceeded x usual [] true dirs plan) same (subst (λ (l : Limits). Exceeded c.in-Err.fault l [] true dirs plan) c.standard.ensures (c.in-Err.ensures.exceeded dirs told (honest_none dirs plan)))
 
-pub returns-in-Err-clause-follows : goal.returns-in-Err-clause-follows
-returns-in-Err-clause-follows g c = λ dirs told.
-    follows_alike _ _ _ _ _ _ _ (λ bytes grows. pending_grows _ _ bytes (g.met.O.Output.keeps_held _ _ bytes c.scan.ensures.sink_kept grows))
-    (c.in-Err.ensures.follows dirs told (honest_none dirs (plan_of c.args.rules.now)))
+pub returns-in-Err-clause-failures : goal.returns-in-Err-clause-failures
+returns-in-Err-clause-failures g c =
+    let failed = c.scan.ensures.failures in
+    record {
+      tree_later = c.scan.ensures.failures.tree_later;
+      sink_later = c.scan.ensures.failures.sink_later;
+      echo_later = c.scan.ensures.failures.echo_later;
+      tree_fault = λ was. c.in-Err.ensures.failures.tree_fault (ap Err (same_fault c.in-Err.fault scan_faults.TreeFault (sym c.fault_of_scan.ensures ∙ err_is _ _ was)));
+      write_fault = λ was. c.in-Err.ensures.failures.write_fault (ap Err (same_fault c.in-Err.fault scan_faults.WriteFault (sym c.fault_of_scan.ensures ∙ err_is _ _ was)));
+    }

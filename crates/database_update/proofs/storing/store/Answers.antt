@@ -1,10 +1,13 @@
-use Rattle.std.proofs.Common.{ℕ, ap, subst, sym, inr, List, Option, Err}
-use Rattle.tree_scan.specs.Blocks.{scan_pieces, scan_text}
+use Rattle.std.proofs.Common.{◌≡◌, true, ap, inr, [], Err}
+use Rattle.tree_scan.specs.declared.rules.ScanFault.{ScanFault}
+use Rattle.tree_scan.specs.Blocks.{scan_text}
 use Rattle.tree_scan.specs.Plans.{plan_of}
-use Rattle.tree_scan.specs.Walks.{LinesFollow}
-use Rattle.database_update.specs.Holding.{pending_in}
-use Rattle.database_update.proofs.HoldingLemmas.{appends_whole, leaves_scan, leaves_whole, named, pending_begun}
-use Rattle.database_update.proofs.ScanLemmas.{follows_stored, not_lacking, not_written, stopped_from, stopped_write}
+use Rattle.tree_scan.specs.Scans.{Stopped, usual}
+use Rattle.tree_scan.specs.Stops.{taken}
+use Rattle.database_update.specs.Faults.{fault_of}
+use Rattle.database_update.specs.Holding.{none_pending, pending_in}
+use Rattle.database_update.proofs.HoldingLemmas.{leaves_scan, leaves_whole, named, pending_begun}
+use Rattle.database_update.proofs.ScanLemmas.{is_fault_of, not_lacking, not_written, part_stored, scan_fault, stopped_from, stopped_write}
 use Rattle.database_update.proofs.storing.store.Goals as goal
 
 pub finish-requires : goal.finish-requires
@@ -16,14 +19,16 @@ returns-in-Err-clause-left g c = λ dirs told.
     let fault = c.in-Err.fault in
     let said = c.in-Err.ensures in
     let start = c.in-Ok.ensures.ok in
+    let from : (f : ScanFault) → fault ≡ fault_of f → Stopped f usual [] true c.args.now dirs plan (taken (none_pending (g.O.Output.held c.args.output.now)) (g.P.Sink.taken c.args.out.now)) (taken (pending_in (g.O.Output.held c.scan_into.new.output)) (g.P.Sink.taken c.pass_on.new.out))
+    = λ f is. stopped_from f c.args.now dirs plan _ _ _ _ _ _ (pending_begun c.args.name.now _ _ start) c.pass_on.ensures.taken (said.stopped dirs told f is) in
+    let part = (from (scan_fault fault) (is_fault_of fault said.scan)).wrote in
     record {
       leaves = leaves_scan fault c.args.name.now (scan_text dirs plan c.args.now) _ _ _ said.scan start (said.part dirs told)
           (λ is. ap g.O.Output.held (said.untouched (ap Err is)).0);
-      follows = inr (subst (λ (t : Option (List ℕ)). LinesFollow (scan_pieces dirs plan c.args.now) t (pending_in (g.O.Output.held c.scan_into.new.output)) (g.P.Sink.taken c.args.out.now) (g.P.Sink.taken c.pass_on.new.out))
-          (pending_begun c.args.name.now _ _ start)
-          (subst (LinesFollow (scan_pieces dirs plan c.args.now) _ _ _) (sym c.pass_on.ensures.taken) (said.follows dirs told)));
+      echo_part = part.lines_part;
+      wrote = inr part;
       unwritten = λ was none. absurd (not_written fault (said.lacking dirs told none) was);
-      stopped = stopped_from fault c.args.now dirs plan _ _ _ _ _ _ (pending_begun c.args.name.now _ _ start) c.pass_on.ensures.taken (said.stopped dirs told);
+      stopped = λ f is. (from f is).at;
     }
 
 pub returns-in-Err-finish-clause-left : goal.returns-in-Err-finish-clause-left
@@ -33,9 +38,11 @@ returns-in-Err-finish-clause-left g c = λ dirs told.
     let start = c.in-Ok.ensures.ok in
     let put = c.in-Ok-scan_into.ensures.done dirs told in
     let lined = (c.in-Ok-scan_into.ensures.completed dirs told).echoed in
+    let part = part_stored c.args.name.now dirs plan c.args.now _ _ _ _ _ _ _ start put said.err lined said.taken in
     record {
       leaves = leaves_whole c.in-Err-finish.fault c.args.name.now (scan_text dirs plan c.args.now) _ _ _ _ said.cause start put said.err;
-      follows = inr (follows_stored c.args.name.now dirs plan c.args.now _ _ _ _ _ _ _ start put said.err lined said.taken);
+      echo_part = part.lines_part;
+      wrote = inr part;
       unwritten = λ was none. absurd (not_lacking c.in-Ok-scan_into.counts (c.in-Ok-scan_into.ensures.lacking dirs told none));
-      stopped = stopped_write c.in-Err-finish.fault c.args.now dirs plan _ _ _ _ said.cause (appends_whole _ _ _ _ lined said.taken);
+      stopped = stopped_write c.in-Err-finish.fault c.args.now dirs plan _ _ _ _ said.cause;
     }

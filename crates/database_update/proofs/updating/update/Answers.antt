@@ -38,7 +38,7 @@ returns-in-Err-clause-does g c =
         given = said.given;
         given_most = said.given_most;
         conf_alone = said.conf_alone;
-        asked_of = λ files dirs plan fs ds made. record { opened = omega arith; stats = omega arith };
+        asked_of = λ files dirs plan fs ds made. record { opened = omega arith; unvouched_alone = λ all. omega arith; stats = omega arith };
         openings = omega arith;
         reads_later = said.later;
       };
@@ -59,14 +59,12 @@ returns-clause-does g c =
       reads_later = read.later;
       stored = did.stored;
       completed = did.completed;
-      begun = did.begun;
-      flushed = did.flushed;
+      ended = did.ended;
       unstored = did.unstored;
       left = did.left;
       begins = did.begins;
       held_back = did.held_back;
       empty = did.empty;
-      scan = did.scan;
       found = did.found;
       exceeded = did.exceeded;
       lacking = did.lacking;

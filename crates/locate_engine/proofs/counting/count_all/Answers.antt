@@ -1,7 +1,7 @@
 use Rattle.std.proofs.Common.{Err}
 use Rattle.byte_feed.proofs.Draws.{draws_then}
-use Rattle.locate_engine.proofs.Counted.{counts_none, counts_before, drawn_fewer, not_missing, by_reading, nothing_fits, too_large_there, damaged_none}
-use Rattle.locate_engine.proofs.Opened.{all_read}
+use Rattle.locate_engine.proofs.Counted.{counts_none, counts_before, drawn_fewer, nothing_fits, damaged_none}
+use Rattle.locate_engine.proofs.Endings.{all_read, by_reading, limit_read, not_missing}
 use Rattle.locate_engine.proofs.counting.count_all.Goals as goal
 
 pub returns-in-Err-clause-counted : goal.returns-in-Err-clause-counted
@@ -14,7 +14,7 @@ pub returns-in-Err-clause-damaged : goal.returns-in-Err-clause-damaged
 returns-in-Err-clause-damaged g c = rw (c.none.ensures, c.outcome_at.ensures) (damaged_none (Err c.in-Err.fault) _ c.in-Err.ensures.stops)
 
 pub returns-in-Err-clause-too_large : goal.returns-in-Err-clause-too_large
-returns-in-Err-clause-too_large g c = rw c.outcome_at.ensures (too_large_there (Err c.in-Err.fault) _ _ c.in-Err.ensures.stops)
+returns-in-Err-clause-too_large g c = rw c.outcome_at.ensures (limit_read (Err c.in-Err.fault) _ _ c.in-Err.ensures.stops)
 
 pub returns-in-Err-clause-reading : goal.returns-in-Err-clause-reading
 returns-in-Err-clause-reading g c = rw c.outcome_at.ensures (by_reading (Err c.in-Err.fault))
@@ -27,7 +27,7 @@ returns-in-Ok-clause-counted g c =
     counts_before _ _ _ _ _ _ _ _ _ c.in-Ok.ensures.ok (drawn_fewer _ _ _ _ _ _ c.count_paths.ensures.drawn) c.count_paths.ensures.counted
 
 pub returns-in-Ok-clause-drawn : goal.returns-in-Ok-clause-drawn
-returns-in-Ok-clause-drawn g c = draws_then _ _ _ _ _ _ _ _ _ c.in-Ok.ensures.drawn c.count_paths.ensures.drawn
+returns-in-Ok-clause-drawn g c = draws_then _ _ _ _ _ _ _ _ _ c.in-Ok.ensures.ahead.drawn c.count_paths.ensures.drawn
 
 pub returns-in-Err-clause-whole : goal.returns-in-Err-clause-whole
 returns-in-Err-clause-whole g c = rw c.outcome_at.ensures (all_read (Err c.in-Err.fault) _ _ c.in-Err.ensures.stops)

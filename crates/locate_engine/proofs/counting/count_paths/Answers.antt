@@ -1,8 +1,8 @@
 use Rattle.std.proofs.Common.{◌++◌, ◌∷◌, [], Bool, Ok, Err, refl, ap, ◌∙◌, arith}
 use Rattle.byte_feed.proofs.Draws.{draws_none, draws_then}
 use Rattle.byte_feed.proofs.Rests.{moved_none, moved_then, moved_same}
-use Rattle.locate_engine.proofs.Counted.{one_more, files_more, bytes_more, counts_end, no_database, not_missing, damaged_there, too_large_there, by_reading, fits_after}
-use Rattle.locate_engine.proofs.Opened.{all_read}
+use Rattle.locate_engine.proofs.Counted.{one_more, files_more, bytes_more, counts_end, no_database, damaged_there, fits_after}
+use Rattle.locate_engine.proofs.Endings.{all_read, by_reading, limit_read, not_missing}
 use Rattle.locate_engine.proofs.counting.count_paths.Goals as goal
 
 pub paths-init : goal.paths-init
@@ -31,21 +31,21 @@ pub returns-in-Err-clause-damaged : goal.returns-in-Err-clause-damaged
 returns-in-Err-clause-damaged g c = rw (c.stats_at.ensures, c.outcome_at.ensures) (damaged_there (Err c.in-Err.fault) _ _ _ _ _ c.in-Err.ensures.stops)
 
 pub returns-in-Err-clause-too_large : goal.returns-in-Err-clause-too_large
-returns-in-Err-clause-too_large g c = rw c.outcome_at.ensures (too_large_there (Err c.in-Err.fault) _ _ c.in-Err.ensures.stops)
+returns-in-Err-clause-too_large g c = rw c.outcome_at.ensures (limit_read (Err c.in-Err.fault) _ _ c.in-Err.ensures.stops)
 
 pub returns-in-Err-clause-reading : goal.returns-in-Err-clause-reading
 returns-in-Err-clause-reading g c = rw c.outcome_at.ensures (by_reading (Err c.in-Err.fault))
 
 pub returns-in-Err-clause-fits : goal.returns-in-Err-clause-fits
 returns-in-Err-clause-fits g c = rw c.stats_at.ensures (fits_after (Err c.in-Err.fault) _ (record {
-  directories = c.in-Err.ensures.heads;
-  files = omega (arith, c.paths.invariant.files, c.in-Err.ensures.forth);
+  directories = c.in-Err.ensures.place.heads;
+  files = omega (arith, c.paths.invariant.files, c.in-Err.ensures.place.forth);
   name_bytes = c.paths.invariant.name_bytes;
-  stored = c.in-Err.ensures.bound;
+  stored = c.in-Err.ensures.place.bound;
 }))
 
 pub returns-in-Err-clause-drawn : goal.returns-in-Err-clause-drawn
-returns-in-Err-clause-drawn g c = draws_then _ _ _ _ _ _ _ _ _ c.paths.invariant.drawn c.in-Err.ensures.drawn
+returns-in-Err-clause-drawn g c = draws_then _ _ _ _ _ _ _ _ _ c.paths.invariant.drawn c.in-Err.ensures.ahead.drawn
 
 pub returns-then-not-more-clause-counted : goal.returns-then-not-more-clause-counted
 returns-then-not-more-clause-counted g c =
@@ -54,14 +54,14 @@ returns-then-not-more-clause-counted g c =
 
 pub returns-then-not-more-clause-fits : goal.returns-then-not-more-clause-fits
 returns-then-not-more-clause-fits g c = rw c.stats_so_far.ensures (record {
-  directories = c.in-Ok.ensures.heads;
-  files = omega (arith, c.paths.invariant.files, c.in-Ok.ensures.forth);
+  directories = c.in-Ok.ensures.place.heads;
+  files = omega (arith, c.paths.invariant.files, c.in-Ok.ensures.place.forth);
   name_bytes = c.paths.invariant.name_bytes;
-  stored = c.in-Ok.ensures.bound;
+  stored = c.in-Ok.ensures.place.bound;
 })
 
 pub returns-then-not-more-clause-drawn : goal.returns-then-not-more-clause-drawn
-returns-then-not-more-clause-drawn g c = draws_then _ _ _ _ _ _ _ _ _ c.paths.invariant.drawn c.in-Ok.ensures.drawn
+returns-then-not-more-clause-drawn g c = draws_then _ _ _ _ _ _ _ _ _ c.paths.invariant.drawn c.in-Ok.ensures.ahead.drawn
 
 pub paths-preserved : goal.paths-preserved
 paths-preserved g c =
@@ -69,7 +69,7 @@ paths-preserved g c =
     let p = g.P.PathStream.found c.next_path.new.self in
     let one = c.in-Ok.ensures.path c.if-not-more.false in
     let grows = c.in-Ok.ensures.grows c.if-not-more.false in
-    let text = c.in-Ok.ensures.text c.if-not-more.false in
+    let text = (c.in-Ok.ensures.found c.if-not-more.false).text in
     record {
       live = c.in-Ok.ensures.live ∙ c.if-not-more.false;
       counted = (
@@ -80,7 +80,7 @@ paths-preserved g c =
       );
       files = omega (arith, c.paths.invariant.files, grows);
       name_bytes = omega (arith, c.paths.invariant.name_bytes, c.name_length-name_bytes.ensures.within, text.fits);
-      drawn = draws_then _ _ _ _ _ _ _ _ _ c.paths.invariant.drawn c.in-Ok.ensures.drawn;
+      drawn = draws_then _ _ _ _ _ _ _ _ _ c.paths.invariant.drawn c.in-Ok.ensures.ahead.drawn;
       src = g.met.S.Source.keeps_on _ _ _ c.paths.invariant.src c.in-Ok.ensures.kept;
       read = omega (arith, c.paths.invariant.read, c.in-Ok.ensures.later);
     }

@@ -5,10 +5,12 @@ use Rattle.byte_feed.proofs.Draws.{draws_none, draws_then}
 use Rattle.byte_feed.proofs.Rests.{moved_none, moved_then, moved_same}
 use Rattle.locate_engine.specs.Passing.{rule_of}
 use Rattle.locate_engine.specs.Searched.{Stand, stand, steps_over}
+use Rattle.locate_engine.specs.Sought.{Sought}
 use Rattle.locate_engine.specs.declared.asking.Step.TheVariants as steps
 use Rattle.locate_engine.proofs.Gone.{steps_one}
 use Rattle.locate_engine.proofs.Exits.{ended_mid, ended_end, told_if, takes_by, so_far_none, step_yes, step_no, searches_limit, searches_gate, searches_write, searches_end}
-use Rattle.locate_engine.proofs.Opened.{all_read, limit_read}
+use Rattle.locate_engine.proofs.Drawn.{reads_drawn}
+use Rattle.locate_engine.proofs.Endings.{all_read, failed_there, limit_read, no_limit, not_gate, not_missing, not_write}
 use Rattle.locate_engine.proofs.paths.search_paths.Goals as goal
 
 -- one path more, after those before
@@ -22,7 +24,7 @@ paths-init g c = record {
     [],
     moved_none _ _ _,
     omega arith,
-    λ told tells one. so_far_none (rule_of (g.M.Matcher.test c.args.matcher.now) c.args.query.now (g.P.PathStream.is_gated c.args.stream.now) told) (g.M.Matcher.bound c.args.matcher.now) (g.P.PathStream.to_come c.args.stream.now) (g.P.PathStream.feed c.args.stream.now) (g.S.Source.left c.args.src.now) (record { heads = None; shown = false }) _ _ refl,
+    λ told tells one. so_far_none (rule_of (g.M.Matcher.sought c.args.matcher.now).wanted c.args.query.now (g.P.PathStream.is_gated c.args.stream.now) told) (g.M.Matcher.sought c.args.matcher.now).bound (g.P.PathStream.to_come c.args.stream.now) (g.P.PathStream.feed c.args.stream.now) (g.S.Source.left c.args.src.now) (record { number = None; shown = false }) _ _ refl,
   );
   rises = omega arith;
   within = omega arith;
@@ -39,50 +41,49 @@ paths-init g c = record {
   asked = omega arith;
   gated = refl;
   tests = refl;
-  test = refl;
-  bound = refl;
+  sought = refl;
 }
 
 pub returns-in-Err-clause-drawn : goal.returns-in-Err-clause-drawn
-returns-in-Err-clause-drawn g c = draws_then _ _ _ _ _ _ _ _ _ c.paths.invariant.drawn c.in-Err.ensures.drawn
+returns-in-Err-clause-drawn g c = draws_then _ _ _ _ _ _ _ _ _ c.paths.invariant.drawn c.in-Err.ensures.ahead.drawn
 
 pub returns-then-not-more-clause-drawn : goal.returns-then-not-more-clause-drawn
-returns-then-not-more-clause-drawn g c = draws_then _ _ _ _ _ _ _ _ _ c.paths.invariant.drawn c.in-Ok.ensures.drawn
+returns-then-not-more-clause-drawn g c = draws_then _ _ _ _ _ _ _ _ _ c.paths.invariant.drawn c.in-Ok.ensures.ahead.drawn
 
 pub returns-in-LimitReached-clause-drawn : goal.returns-in-LimitReached-clause-drawn
-returns-in-LimitReached-clause-drawn g c = draws_then _ _ _ _ _ _ _ _ _ c.paths.invariant.drawn c.in-Ok.ensures.drawn
+returns-in-LimitReached-clause-drawn g c = draws_then _ _ _ _ _ _ _ _ _ c.paths.invariant.drawn c.in-Ok.ensures.ahead.drawn
 
 pub returns-in-GateFault-clause-drawn : goal.returns-in-GateFault-clause-drawn
-returns-in-GateFault-clause-drawn g c = draws_then _ _ _ _ _ _ _ _ _ c.paths.invariant.drawn c.in-Ok.ensures.drawn
+returns-in-GateFault-clause-drawn g c = draws_then _ _ _ _ _ _ _ _ _ c.paths.invariant.drawn c.in-Ok.ensures.ahead.drawn
 
 pub returns-in-WriteFault-clause-drawn : goal.returns-in-WriteFault-clause-drawn
-returns-in-WriteFault-clause-drawn g c = draws_then _ _ _ _ _ _ _ _ _ c.paths.invariant.drawn c.in-Ok.ensures.drawn
+returns-in-WriteFault-clause-drawn g c = draws_then _ _ _ _ _ _ _ _ _ c.paths.invariant.drawn c.in-Ok.ensures.ahead.drawn
 
 pub returns-in-Err-clause-searched : goal.returns-in-Err-clause-searched
 returns-in-Err-clause-searched g c =
     let before = c.paths.invariant.gone in
     rw c.outcome_at.ensures
     (λ one. told_if _ _ _ (λ told tells.
-    searches_end (rule_of (g.M.Matcher.test c.args.matcher.now) c.args.query.now (g.P.PathStream.is_gated c.args.stream.now) told) (g.M.Matcher.bound c.args.matcher.now) _ _ _ _ c.paths.invariant.below
+    searches_end (rule_of (g.M.Matcher.sought c.args.matcher.now).wanted c.args.query.now (g.P.PathStream.is_gated c.args.stream.now) told) (g.M.Matcher.sought c.args.matcher.now).bound _ _ _ _ c.paths.invariant.below
     _ _ _ _ before.0 c.paths.block _ _ _ _ _ _ before.1 c.in-Err.ensures.err (before.3 told tells one) _))
 
 pub returns-then-not-more-clause-searched : goal.returns-then-not-more-clause-searched
 returns-then-not-more-clause-searched g c =
     let before = c.paths.invariant.gone in
     λ one. told_if _ _ _ (λ told tells.
-    searches_end (rule_of (g.M.Matcher.test c.args.matcher.now) c.args.query.now (g.P.PathStream.is_gated c.args.stream.now) told) (g.M.Matcher.bound c.args.matcher.now) _ _ _ _ c.paths.invariant.below
+    searches_end (rule_of (g.M.Matcher.sought c.args.matcher.now).wanted c.args.query.now (g.P.PathStream.is_gated c.args.stream.now) told) (g.M.Matcher.sought c.args.matcher.now).bound _ _ _ _ c.paths.invariant.below
     _ _ _ _ before.0 c.paths.block _ _ _ _ _ _ before.1 (c.in-Ok.ensures.end (ap (λ (b : Bool). Ok b) c.if-not-more.true)) (before.3 told tells one) _)
 
 pub returns-in-LimitReached-clause-searched : goal.returns-in-LimitReached-clause-searched
 returns-in-LimitReached-clause-searched g c =
-    let wanted : List ℕ → Bool = g.M.Matcher.test c.args.matcher.now in
-    let bound : List ℕ → ℕ = g.M.Matcher.bound c.args.matcher.now in
+    let wanted : List ℕ → Bool = (g.M.Matcher.sought c.args.matcher.now).wanted in
+    let bound : List ℕ → ℕ = (g.M.Matcher.sought c.args.matcher.now).bound in
     let gated : Bool = g.P.PathStream.is_gated c.args.stream.now in
     let before = c.paths.invariant.gone in
     let p : PathAt = g.P.PathStream.found c.next_path.new.self in
     let found = c.in-Ok.ensures.path c.if-not-more.false in
-    let answer : wanted p.text ≡ true = ap wanted (sym c.path.ensures) ∙ ap (λ (t : List ℕ → Bool). t c.path.result.now) (sym c.paths.invariant.test) ∙ sym c.wants.ensures.answer ∙ c.if-wants.true in
-    let dear : g.M.Matcher.bound c.paths.matcher c.path.result.now ≡ bound p.text = ap (λ (b : List ℕ → ℕ). b c.path.result.now) c.paths.invariant.bound ∙ ap bound c.path.ensures in
+    let answer : wanted p.text ≡ true = ap wanted (sym c.path.ensures) ∙ ap (λ (k : Sought). k.wanted c.path.result.now) (sym c.paths.invariant.sought) ∙ sym c.wants.ensures.answer ∙ c.if-wants.true in
+    let dear : (g.M.Matcher.sought c.paths.matcher).bound c.path.result.now ≡ bound p.text = ap (λ (k : Sought). k.bound c.path.result.now) c.paths.invariant.sought ∙ ap bound c.path.ensures in
     let cost : c.wants.new.steps ≤ c.paths.steps + bound p.text = omega (arith, c.wants.ensures.within, dear) in
     let dearer : c.wants.new.steps ≤ c.args.steps.now + steps_over bound (before.0 ++ p ∷ []) = omega (arith, before.2, cost, steps_one bound before.0 p) in
     let moved = moved_same _ _ _ _ _ _ _ _ (joined before.0 p) (moved_then _ _ _ _ _ _ _ _ _ _ _ before.1 found) in
@@ -90,19 +91,19 @@ returns-in-LimitReached-clause-searched g c =
     let new : Stand = stand (g.K.Sink.taken c.take_path.new.out) c.take_path.new.tally.matched (g.G.Gate.asks c.take_path.new.gate) in
     let took = takes_by gated (g.P.PathStream.is_gated c.next_path.new.self) (g.G.Gate.tests c.args.gate.now) (g.G.Gate.tests c.paths.gate) c.args.query.now c.paths.block c.take_path.new.block p old new steps.LimitReached
     (c.in-Ok.ensures.gate ∙ c.paths.invariant.gated) c.paths.invariant.tests c.in-LimitReached.ensures.takes in
-    let near : reach (g.P.PathStream.feed c.next_path.new.self) ≤ p.place + 20480 = omega (arith, c.in-Ok.ensures.near, c.in-Ok.ensures.held, (c.in-Ok.ensures.at c.if-not-more.false).0) in
+    let near : reach (g.P.PathStream.feed c.next_path.new.self) ≤ p.place + 20480 = omega (arith, c.in-Ok.ensures.place.near, c.in-Ok.ensures.ahead.held, ((c.in-Ok.ensures.found c.if-not-more.false).at).0) in
     λ one. told_if _ _ _ (λ told tells. searches_limit (rule_of wanted c.args.query.now gated told) bound _ _ _ _ before.0 p c.paths.block _ old _ _ _ cost answer _ _ c.take_path.new.block new moved one (before.3 told tells one) (took wanted told tells) (c.in-LimitReached.ensures.limit refl) _ near)
 
 pub returns-in-GateFault-clause-searched : goal.returns-in-GateFault-clause-searched
 returns-in-GateFault-clause-searched g c =
-    let wanted : List ℕ → Bool = g.M.Matcher.test c.args.matcher.now in
-    let bound : List ℕ → ℕ = g.M.Matcher.bound c.args.matcher.now in
+    let wanted : List ℕ → Bool = (g.M.Matcher.sought c.args.matcher.now).wanted in
+    let bound : List ℕ → ℕ = (g.M.Matcher.sought c.args.matcher.now).bound in
     let gated : Bool = g.P.PathStream.is_gated c.args.stream.now in
     let before = c.paths.invariant.gone in
     let p : PathAt = g.P.PathStream.found c.next_path.new.self in
     let found = c.in-Ok.ensures.path c.if-not-more.false in
-    let answer : wanted p.text ≡ true = ap wanted (sym c.path.ensures) ∙ ap (λ (t : List ℕ → Bool). t c.path.result.now) (sym c.paths.invariant.test) ∙ sym c.wants.ensures.answer ∙ c.if-wants.true in
-    let dear : g.M.Matcher.bound c.paths.matcher c.path.result.now ≡ bound p.text = ap (λ (b : List ℕ → ℕ). b c.path.result.now) c.paths.invariant.bound ∙ ap bound c.path.ensures in
+    let answer : wanted p.text ≡ true = ap wanted (sym c.path.ensures) ∙ ap (λ (k : Sought). k.wanted c.path.result.now) (sym c.paths.invariant.sought) ∙ sym c.wants.ensures.answer ∙ c.if-wants.true in
+    let dear : (g.M.Matcher.sought c.paths.matcher).bound c.path.result.now ≡ bound p.text = ap (λ (k : Sought). k.bound c.path.result.now) c.paths.invariant.sought ∙ ap bound c.path.ensures in
     let cost : c.wants.new.steps ≤ c.paths.steps + bound p.text = omega (arith, c.wants.ensures.within, dear) in
     let dearer : c.wants.new.steps ≤ c.args.steps.now + steps_over bound (before.0 ++ p ∷ []) = omega (arith, before.2, cost, steps_one bound before.0 p) in
     let moved = moved_same _ _ _ _ _ _ _ _ (joined before.0 p) (moved_then _ _ _ _ _ _ _ _ _ _ _ before.1 found) in
@@ -114,14 +115,14 @@ returns-in-GateFault-clause-searched g c =
 
 pub returns-in-WriteFault-clause-searched : goal.returns-in-WriteFault-clause-searched
 returns-in-WriteFault-clause-searched g c =
-    let wanted : List ℕ → Bool = g.M.Matcher.test c.args.matcher.now in
-    let bound : List ℕ → ℕ = g.M.Matcher.bound c.args.matcher.now in
+    let wanted : List ℕ → Bool = (g.M.Matcher.sought c.args.matcher.now).wanted in
+    let bound : List ℕ → ℕ = (g.M.Matcher.sought c.args.matcher.now).bound in
     let gated : Bool = g.P.PathStream.is_gated c.args.stream.now in
     let before = c.paths.invariant.gone in
     let p : PathAt = g.P.PathStream.found c.next_path.new.self in
     let found = c.in-Ok.ensures.path c.if-not-more.false in
-    let answer : wanted p.text ≡ true = ap wanted (sym c.path.ensures) ∙ ap (λ (t : List ℕ → Bool). t c.path.result.now) (sym c.paths.invariant.test) ∙ sym c.wants.ensures.answer ∙ c.if-wants.true in
-    let dear : g.M.Matcher.bound c.paths.matcher c.path.result.now ≡ bound p.text = ap (λ (b : List ℕ → ℕ). b c.path.result.now) c.paths.invariant.bound ∙ ap bound c.path.ensures in
+    let answer : wanted p.text ≡ true = ap wanted (sym c.path.ensures) ∙ ap (λ (k : Sought). k.wanted c.path.result.now) (sym c.paths.invariant.sought) ∙ sym c.wants.ensures.answer ∙ c.if-wants.true in
+    let dear : (g.M.Matcher.sought c.paths.matcher).bound c.path.result.now ≡ bound p.text = ap (λ (k : Sought). k.bound c.path.result.now) c.paths.invariant.sought ∙ ap bound c.path.ensures in
     let cost : c.wants.new.steps ≤ c.paths.steps + bound p.text = omega (arith, c.wants.ensures.within, dear) in
     let dearer : c.wants.new.steps ≤ c.args.steps.now + steps_over bound (before.0 ++ p ∷ []) = omega (arith, before.2, cost, steps_one bound before.0 p) in
     let moved = moved_same _ _ _ _ _ _ _ _ (joined before.0 p) (moved_then _ _ _ _ _ _ _ _ _ _ _ before.1 found) in
@@ -133,14 +134,14 @@ returns-in-WriteFault-clause-searched g c =
 
 pub paths-preserved-in-On : goal.paths-preserved-in-On
 paths-preserved-in-On g c =
-    let wanted : List ℕ → Bool = g.M.Matcher.test c.args.matcher.now in
-    let bound : List ℕ → ℕ = g.M.Matcher.bound c.args.matcher.now in
+    let wanted : List ℕ → Bool = (g.M.Matcher.sought c.args.matcher.now).wanted in
+    let bound : List ℕ → ℕ = (g.M.Matcher.sought c.args.matcher.now).bound in
     let gated : Bool = g.P.PathStream.is_gated c.args.stream.now in
     let before = c.paths.invariant.gone in
     let p : PathAt = g.P.PathStream.found c.next_path.new.self in
     let found = c.in-Ok.ensures.path c.if-not-more.false in
-    let answer : wanted p.text ≡ true = ap wanted (sym c.path.ensures) ∙ ap (λ (t : List ℕ → Bool). t c.path.result.now) (sym c.paths.invariant.test) ∙ sym c.wants.ensures.answer ∙ c.if-wants.true in
-    let dear : g.M.Matcher.bound c.paths.matcher c.path.result.now ≡ bound p.text = ap (λ (b : List ℕ → ℕ). b c.path.result.now) c.paths.invariant.bound ∙ ap bound c.path.ensures in
+    let answer : wanted p.text ≡ true = ap wanted (sym c.path.ensures) ∙ ap (λ (k : Sought). k.wanted c.path.result.now) (sym c.paths.invariant.sought) ∙ sym c.wants.ensures.answer ∙ c.if-wants.true in
+    let dear : (g.M.Matcher.sought c.paths.matcher).bound c.path.result.now ≡ bound p.text = ap (λ (k : Sought). k.bound c.path.result.now) c.paths.invariant.sought ∙ ap bound c.path.ensures in
     let cost : c.wants.new.steps ≤ c.paths.steps + bound p.text = omega (arith, c.wants.ensures.within, dear) in
     let dearer : c.wants.new.steps ≤ c.args.steps.now + steps_over bound (before.0 ++ p ∷ []) = omega (arith, before.2, cost, steps_one bound before.0 p) in
     let moved = moved_same _ _ _ _ _ _ _ _ (joined before.0 p) (moved_then _ _ _ _ _ _ _ _ _ _ _ before.1 found) in
@@ -162,7 +163,7 @@ paths-preserved-in-On g c =
       below = c.in-On.ensures.below (λ e. absurd cc);
       only_counted = λ only. c.in-On.ensures.only_counted only ∙ c.paths.invariant.only_counted only;
       steps = omega (arith, c.paths.invariant.steps, c.wants.ensures.later);
-      drawn = draws_then _ _ _ _ _ _ _ _ _ c.paths.invariant.drawn c.in-Ok.ensures.drawn;
+      drawn = draws_then _ _ _ _ _ _ _ _ _ c.paths.invariant.drawn c.in-Ok.ensures.ahead.drawn;
       src = g.met.S.Source.keeps_on _ _ _ c.paths.invariant.src c.in-Ok.ensures.kept;
       gate = g.met.G.Gate.keeps_on _ _ _ c.paths.invariant.gate c.in-On.ensures.gate_kept;
       sink = g.met.K.Sink.keeps_on _ _ _ c.paths.invariant.sink c.in-On.ensures.out_kept;
@@ -172,20 +173,19 @@ paths-preserved-in-On g c =
       asked = omega (arith, c.paths.invariant.asked, c.in-On.ensures.asks_rise);
       gated = c.in-Ok.ensures.gate ∙ c.paths.invariant.gated;
       tests = g.met.G.Gate.keeps_tests _ _ c.in-On.ensures.gate_kept ∙ c.paths.invariant.tests;
-      test = c.wants.ensures.same ∙ c.paths.invariant.test;
-      bound = c.wants.ensures.same_bound ∙ c.paths.invariant.bound;
+      sought = c.wants.ensures.same ∙ c.paths.invariant.sought;
     }
 
 pub paths-preserved : goal.paths-preserved
 paths-preserved g c =
-    let wanted : List ℕ → Bool = g.M.Matcher.test c.args.matcher.now in
-    let bound : List ℕ → ℕ = g.M.Matcher.bound c.args.matcher.now in
+    let wanted : List ℕ → Bool = (g.M.Matcher.sought c.args.matcher.now).wanted in
+    let bound : List ℕ → ℕ = (g.M.Matcher.sought c.args.matcher.now).bound in
     let gated : Bool = g.P.PathStream.is_gated c.args.stream.now in
     let before = c.paths.invariant.gone in
     let p : PathAt = g.P.PathStream.found c.next_path.new.self in
     let found = c.in-Ok.ensures.path c.if-not-more.false in
-    let answer : wanted p.text ≡ false = ap wanted (sym c.path.ensures) ∙ ap (λ (t : List ℕ → Bool). t c.path.result.now) (sym c.paths.invariant.test) ∙ sym c.wants.ensures.answer ∙ c.if-wants.false in
-    let dear : g.M.Matcher.bound c.paths.matcher c.path.result.now ≡ bound p.text = ap (λ (b : List ℕ → ℕ). b c.path.result.now) c.paths.invariant.bound ∙ ap bound c.path.ensures in
+    let answer : wanted p.text ≡ false = ap wanted (sym c.path.ensures) ∙ ap (λ (k : Sought). k.wanted c.path.result.now) (sym c.paths.invariant.sought) ∙ sym c.wants.ensures.answer ∙ c.if-wants.false in
+    let dear : (g.M.Matcher.sought c.paths.matcher).bound c.path.result.now ≡ bound p.text = ap (λ (k : Sought). k.bound c.path.result.now) c.paths.invariant.sought ∙ ap bound c.path.ensures in
     let cost : c.wants.new.steps ≤ c.paths.steps + bound p.text = omega (arith, c.wants.ensures.within, dear) in
     let dearer : c.wants.new.steps ≤ c.args.steps.now + steps_over bound (before.0 ++ p ∷ []) = omega (arith, before.2, cost, steps_one bound before.0 p) in
     let moved = moved_same _ _ _ _ _ _ _ _ (joined before.0 p) (moved_then _ _ _ _ _ _ _ _ _ _ _ before.1 found) in
@@ -204,7 +204,7 @@ paths-preserved g c =
       below = c.paths.invariant.below;
       only_counted = c.paths.invariant.only_counted;
       steps = omega (arith, c.paths.invariant.steps, c.wants.ensures.later);
-      drawn = draws_then _ _ _ _ _ _ _ _ _ c.paths.invariant.drawn c.in-Ok.ensures.drawn;
+      drawn = draws_then _ _ _ _ _ _ _ _ _ c.paths.invariant.drawn c.in-Ok.ensures.ahead.drawn;
       src = g.met.S.Source.keeps_on _ _ _ c.paths.invariant.src c.in-Ok.ensures.kept;
       gate = c.paths.invariant.gate;
       sink = c.paths.invariant.sink;
@@ -214,31 +214,30 @@ paths-preserved g c =
       asked = c.paths.invariant.asked;
       gated = c.in-Ok.ensures.gate ∙ c.paths.invariant.gated;
       tests = c.paths.invariant.tests;
-      test = c.wants.ensures.same ∙ c.paths.invariant.test;
-      bound = c.wants.ensures.same_bound ∙ c.paths.invariant.bound;
+      sought = c.wants.ensures.same ∙ c.paths.invariant.sought;
     }
 
 pub returns-in-Err-clause-ended : goal.returns-in-Err-clause-ended
 returns-in-Err-clause-ended g c =
     let before = c.paths.invariant.gone in
-    rw c.outcome_at.ensures (ended_end (g.M.Matcher.bound c.args.matcher.now) (g.P.PathStream.to_come c.args.stream.now) _ (g.P.PathStream.feed c.args.stream.now) _ before.0 (g.S.Source.left c.args.src.now) _ _ c.args.steps.now c.paths.steps before.2 _ _ _ before.1 c.in-Err.ensures.err)
+    rw c.outcome_at.ensures (ended_end (g.M.Matcher.sought c.args.matcher.now).bound (g.P.PathStream.to_come c.args.stream.now) _ (g.P.PathStream.feed c.args.stream.now) _ before.0 (g.S.Source.left c.args.src.now) _ _ c.args.steps.now c.paths.steps before.2 _ _ _ before.1 c.in-Err.ensures.err)
 
 pub returns-then-not-more-clause-ended : goal.returns-then-not-more-clause-ended
 returns-then-not-more-clause-ended g c =
     let before = c.paths.invariant.gone in
-    ended_end (g.M.Matcher.bound c.args.matcher.now) (g.P.PathStream.to_come c.args.stream.now) _ (g.P.PathStream.feed c.args.stream.now) _ before.0 (g.S.Source.left c.args.src.now) _ _ c.args.steps.now c.paths.steps before.2 _ _ _ before.1
+    ended_end (g.M.Matcher.sought c.args.matcher.now).bound (g.P.PathStream.to_come c.args.stream.now) _ (g.P.PathStream.feed c.args.stream.now) _ before.0 (g.S.Source.left c.args.src.now) _ _ c.args.steps.now c.paths.steps before.2 _ _ _ before.1
     (c.in-Ok.ensures.end (ap (λ (b : Bool). Ok b) c.if-not-more.true))
 
 pub returns-in-LimitReached-clause-ended : goal.returns-in-LimitReached-clause-ended
 returns-in-LimitReached-clause-ended g c =
-    let wanted : List ℕ → Bool = g.M.Matcher.test c.args.matcher.now in
-    let bound : List ℕ → ℕ = g.M.Matcher.bound c.args.matcher.now in
+    let wanted : List ℕ → Bool = (g.M.Matcher.sought c.args.matcher.now).wanted in
+    let bound : List ℕ → ℕ = (g.M.Matcher.sought c.args.matcher.now).bound in
     let gated : Bool = g.P.PathStream.is_gated c.args.stream.now in
     let before = c.paths.invariant.gone in
     let p : PathAt = g.P.PathStream.found c.next_path.new.self in
     let found = c.in-Ok.ensures.path c.if-not-more.false in
-    let answer : wanted p.text ≡ true = ap wanted (sym c.path.ensures) ∙ ap (λ (t : List ℕ → Bool). t c.path.result.now) (sym c.paths.invariant.test) ∙ sym c.wants.ensures.answer ∙ c.if-wants.true in
-    let dear : g.M.Matcher.bound c.paths.matcher c.path.result.now ≡ bound p.text = ap (λ (b : List ℕ → ℕ). b c.path.result.now) c.paths.invariant.bound ∙ ap bound c.path.ensures in
+    let answer : wanted p.text ≡ true = ap wanted (sym c.path.ensures) ∙ ap (λ (k : Sought). k.wanted c.path.result.now) (sym c.paths.invariant.sought) ∙ sym c.wants.ensures.answer ∙ c.if-wants.true in
+    let dear : (g.M.Matcher.sought c.paths.matcher).bound c.path.result.now ≡ bound p.text = ap (λ (k : Sought). k.bound c.path.result.now) c.paths.invariant.sought ∙ ap bound c.path.ensures in
     let cost : c.wants.new.steps ≤ c.paths.steps + bound p.text = omega (arith, c.wants.ensures.within, dear) in
     let dearer : c.wants.new.steps ≤ c.args.steps.now + steps_over bound (before.0 ++ p ∷ []) = omega (arith, before.2, cost, steps_one bound before.0 p) in
     let moved = moved_same _ _ _ _ _ _ _ _ (joined before.0 p) (moved_then _ _ _ _ _ _ _ _ _ _ _ before.1 found) in
@@ -246,14 +245,14 @@ returns-in-LimitReached-clause-ended g c =
 
 pub returns-in-GateFault-clause-ended : goal.returns-in-GateFault-clause-ended
 returns-in-GateFault-clause-ended g c =
-    let wanted : List ℕ → Bool = g.M.Matcher.test c.args.matcher.now in
-    let bound : List ℕ → ℕ = g.M.Matcher.bound c.args.matcher.now in
+    let wanted : List ℕ → Bool = (g.M.Matcher.sought c.args.matcher.now).wanted in
+    let bound : List ℕ → ℕ = (g.M.Matcher.sought c.args.matcher.now).bound in
     let gated : Bool = g.P.PathStream.is_gated c.args.stream.now in
     let before = c.paths.invariant.gone in
     let p : PathAt = g.P.PathStream.found c.next_path.new.self in
     let found = c.in-Ok.ensures.path c.if-not-more.false in
-    let answer : wanted p.text ≡ true = ap wanted (sym c.path.ensures) ∙ ap (λ (t : List ℕ → Bool). t c.path.result.now) (sym c.paths.invariant.test) ∙ sym c.wants.ensures.answer ∙ c.if-wants.true in
-    let dear : g.M.Matcher.bound c.paths.matcher c.path.result.now ≡ bound p.text = ap (λ (b : List ℕ → ℕ). b c.path.result.now) c.paths.invariant.bound ∙ ap bound c.path.ensures in
+    let answer : wanted p.text ≡ true = ap wanted (sym c.path.ensures) ∙ ap (λ (k : Sought). k.wanted c.path.result.now) (sym c.paths.invariant.sought) ∙ sym c.wants.ensures.answer ∙ c.if-wants.true in
+    let dear : (g.M.Matcher.sought c.paths.matcher).bound c.path.result.now ≡ bound p.text = ap (λ (k : Sought). k.bound c.path.result.now) c.paths.invariant.sought ∙ ap bound c.path.ensures in
     let cost : c.wants.new.steps ≤ c.paths.steps + bound p.text = omega (arith, c.wants.ensures.within, dear) in
     let dearer : c.wants.new.steps ≤ c.args.steps.now + steps_over bound (before.0 ++ p ∷ []) = omega (arith, before.2, cost, steps_one bound before.0 p) in
     let moved = moved_same _ _ _ _ _ _ _ _ (joined before.0 p) (moved_then _ _ _ _ _ _ _ _ _ _ _ before.1 found) in
@@ -261,24 +260,132 @@ returns-in-GateFault-clause-ended g c =
 
 pub returns-in-WriteFault-clause-ended : goal.returns-in-WriteFault-clause-ended
 returns-in-WriteFault-clause-ended g c =
-    let wanted : List ℕ → Bool = g.M.Matcher.test c.args.matcher.now in
-    let bound : List ℕ → ℕ = g.M.Matcher.bound c.args.matcher.now in
+    let wanted : List ℕ → Bool = (g.M.Matcher.sought c.args.matcher.now).wanted in
+    let bound : List ℕ → ℕ = (g.M.Matcher.sought c.args.matcher.now).bound in
     let gated : Bool = g.P.PathStream.is_gated c.args.stream.now in
     let before = c.paths.invariant.gone in
     let p : PathAt = g.P.PathStream.found c.next_path.new.self in
     let found = c.in-Ok.ensures.path c.if-not-more.false in
-    let answer : wanted p.text ≡ true = ap wanted (sym c.path.ensures) ∙ ap (λ (t : List ℕ → Bool). t c.path.result.now) (sym c.paths.invariant.test) ∙ sym c.wants.ensures.answer ∙ c.if-wants.true in
-    let dear : g.M.Matcher.bound c.paths.matcher c.path.result.now ≡ bound p.text = ap (λ (b : List ℕ → ℕ). b c.path.result.now) c.paths.invariant.bound ∙ ap bound c.path.ensures in
+    let answer : wanted p.text ≡ true = ap wanted (sym c.path.ensures) ∙ ap (λ (k : Sought). k.wanted c.path.result.now) (sym c.paths.invariant.sought) ∙ sym c.wants.ensures.answer ∙ c.if-wants.true in
+    let dear : (g.M.Matcher.sought c.paths.matcher).bound c.path.result.now ≡ bound p.text = ap (λ (k : Sought). k.bound c.path.result.now) c.paths.invariant.sought ∙ ap bound c.path.ensures in
     let cost : c.wants.new.steps ≤ c.paths.steps + bound p.text = omega (arith, c.wants.ensures.within, dear) in
     let dearer : c.wants.new.steps ≤ c.args.steps.now + steps_over bound (before.0 ++ p ∷ []) = omega (arith, before.2, cost, steps_one bound before.0 p) in
     let moved = moved_same _ _ _ _ _ _ _ _ (joined before.0 p) (moved_then _ _ _ _ _ _ _ _ _ _ _ before.1 found) in
     ended_mid bound (g.P.PathStream.to_come c.args.stream.now) _ (g.P.PathStream.feed c.args.stream.now) _ (before.0 ++ p ∷ []) (g.S.Source.left c.args.src.now) _ c.args.steps.now c.wants.new.steps dearer _ moved refl
 
-pub returns-in-Err-clause-whole : goal.returns-in-Err-clause-whole
-returns-in-Err-clause-whole g c = rw c.outcome_at.ensures (all_read (Err c.in-Err.fault) _ _ c.in-Err.ensures.stops)
+pub returns-in-Err-clause-moves : goal.returns-in-Err-clause-moves
+returns-in-Err-clause-moves g c = rw c.outcome_at.ensures (record {
+  files = refl;
+  tests = c.paths.invariant.tests;
+  reads = reads_drawn _ _ _ _ _ _ _ _ _ (returns-in-Err-clause-drawn g c) c.in-Err.ensures.ahead.bound (omega (arith, c.paths.invariant.read, c.in-Err.ensures.later)) (λ e. omega (arith, c.paths.invariant.read, c.in-Err.ensures.fault (ap Err (failed_there c.in-Err.fault e))));
+  matched = c.paths.invariant.rises;
+  matched_within = omega (arith, c.paths.invariant.within, c.in-Err.ensures.place.forth, c.in-Err.ensures.place.bound);
+  steps = c.paths.invariant.steps;
+  asks = c.paths.invariant.asked;
+  gate = c.paths.invariant.answered;
+  writes = c.paths.invariant.written;
+  gate_fault = λ e. absurd (not_gate (Err c.in-Err.fault) e);
+  write_fault = λ e. absurd (not_write (Err c.in-Err.fault) e);
+})
 
-pub returns-in-Err-clause-too_large : goal.returns-in-Err-clause-too_large
-returns-in-Err-clause-too_large g c = rw c.outcome_at.ensures (limit_read (Err c.in-Err.fault) _ _ c.in-Err.ensures.stops)
+pub returns-then-not-more-clause-moves : goal.returns-then-not-more-clause-moves
+returns-then-not-more-clause-moves g c = record {
+  files = refl;
+  tests = c.paths.invariant.tests;
+  reads = reads_drawn _ _ _ _ _ _ _ _ _ (returns-then-not-more-clause-drawn g c) c.in-Ok.ensures.ahead.bound (omega (arith, c.paths.invariant.read, c.in-Ok.ensures.later)) (λ e. absurd cc);
+  matched = c.paths.invariant.rises;
+  matched_within = omega (arith, c.paths.invariant.within, c.in-Ok.ensures.place.forth, c.in-Ok.ensures.place.bound);
+  steps = c.paths.invariant.steps;
+  asks = c.paths.invariant.asked;
+  gate = c.paths.invariant.answered;
+  writes = c.paths.invariant.written;
+  gate_fault = λ e. absurd cc;
+  write_fault = λ e. absurd cc;
+}
 
-pub returns-then-not-more-clause-whole : goal.returns-then-not-more-clause-whole
-returns-then-not-more-clause-whole g c = λ _. (c.in-Ok.ensures.whole (ap (λ (b : Bool). Ok b) c.if-not-more.true)).1
+pub returns-in-LimitReached-clause-moves : goal.returns-in-LimitReached-clause-moves
+returns-in-LimitReached-clause-moves g c = record {
+  files = refl;
+  tests = g.met.G.Gate.keeps_tests _ _ c.in-LimitReached.ensures.gate_kept ∙ c.paths.invariant.tests;
+  reads = reads_drawn _ _ _ _ _ _ _ _ _ (returns-in-LimitReached-clause-drawn g c) c.in-Ok.ensures.ahead.bound (omega (arith, c.paths.invariant.read, c.in-Ok.ensures.later)) (λ e. absurd cc);
+  matched = omega (arith, c.paths.invariant.rises, c.in-LimitReached.ensures.rises);
+  matched_within = omega (arith, c.paths.invariant.within, c.in-LimitReached.ensures.within, c.in-Ok.ensures.grows c.if-not-more.false, c.in-Ok.ensures.place.bound);
+  steps = omega (arith, c.paths.invariant.steps, c.wants.ensures.later);
+  asks = omega (arith, c.paths.invariant.asked, c.in-LimitReached.ensures.asks_rise);
+  gate = omega (arith, c.paths.invariant.answered, c.in-LimitReached.ensures.gate_later);
+  writes = omega (arith, c.paths.invariant.written, c.in-LimitReached.ensures.out_later);
+  gate_fault = λ e. absurd cc;
+  write_fault = λ e. absurd cc;
+}
+
+pub returns-in-GateFault-clause-moves : goal.returns-in-GateFault-clause-moves
+returns-in-GateFault-clause-moves g c = record {
+  files = refl;
+  tests = g.met.G.Gate.keeps_tests _ _ c.in-GateFault.ensures.gate_kept ∙ c.paths.invariant.tests;
+  reads = reads_drawn _ _ _ _ _ _ _ _ _ (returns-in-GateFault-clause-drawn g c) c.in-Ok.ensures.ahead.bound (omega (arith, c.paths.invariant.read, c.in-Ok.ensures.later)) (λ e. absurd cc);
+  matched = omega (arith, c.paths.invariant.rises, c.in-GateFault.ensures.rises);
+  matched_within = omega (arith, c.paths.invariant.within, c.in-GateFault.ensures.within, c.in-Ok.ensures.grows c.if-not-more.false, c.in-Ok.ensures.place.bound);
+  steps = omega (arith, c.paths.invariant.steps, c.wants.ensures.later);
+  asks = omega (arith, c.paths.invariant.asked, c.in-GateFault.ensures.asks_rise);
+  gate = omega (arith, c.paths.invariant.answered, c.in-GateFault.ensures.gate_later);
+  writes = omega (arith, c.paths.invariant.written, c.in-GateFault.ensures.out_later);
+  gate_fault = λ e. omega (arith, c.paths.invariant.answered, c.in-GateFault.ensures.gate_fault refl);
+  write_fault = λ e. absurd cc;
+}
+
+pub returns-in-WriteFault-clause-moves : goal.returns-in-WriteFault-clause-moves
+returns-in-WriteFault-clause-moves g c = record {
+  files = refl;
+  tests = g.met.G.Gate.keeps_tests _ _ c.in-WriteFault.ensures.gate_kept ∙ c.paths.invariant.tests;
+  reads = reads_drawn _ _ _ _ _ _ _ _ _ (returns-in-WriteFault-clause-drawn g c) c.in-Ok.ensures.ahead.bound (omega (arith, c.paths.invariant.read, c.in-Ok.ensures.later)) (λ e. absurd cc);
+  matched = omega (arith, c.paths.invariant.rises, c.in-WriteFault.ensures.rises);
+  matched_within = omega (arith, c.paths.invariant.within, c.in-WriteFault.ensures.within, c.in-Ok.ensures.grows c.if-not-more.false, c.in-Ok.ensures.place.bound);
+  steps = omega (arith, c.paths.invariant.steps, c.wants.ensures.later);
+  asks = omega (arith, c.paths.invariant.asked, c.in-WriteFault.ensures.asks_rise);
+  gate = omega (arith, c.paths.invariant.answered, c.in-WriteFault.ensures.gate_later);
+  writes = omega (arith, c.paths.invariant.written, c.in-WriteFault.ensures.out_later);
+  gate_fault = λ e. absurd cc;
+  write_fault = λ e. omega (arith, c.paths.invariant.written, c.in-WriteFault.ensures.write_fault refl);
+}
+
+pub returns-in-Err-clause-limit : goal.returns-in-Err-clause-limit
+returns-in-Err-clause-limit g c = rw c.outcome_at.ensures (record { reached = λ e. absurd (no_limit (Err c.in-Err.fault) e); under = λ _. c.paths.invariant.below })
+
+pub returns-then-not-more-clause-limit : goal.returns-then-not-more-clause-limit
+returns-then-not-more-clause-limit g c = record { reached = λ e. absurd cc; under = λ _. c.paths.invariant.below }
+
+pub returns-in-LimitReached-clause-limit : goal.returns-in-LimitReached-clause-limit
+returns-in-LimitReached-clause-limit g c = record { reached = λ _. c.in-LimitReached.ensures.limit refl; under = λ other. absurd (other refl) }
+
+pub returns-in-GateFault-clause-limit : goal.returns-in-GateFault-clause-limit
+returns-in-GateFault-clause-limit g c = record { reached = λ e. absurd cc; under = λ _. c.in-GateFault.ensures.below (λ e. absurd cc) }
+
+pub returns-in-WriteFault-clause-limit : goal.returns-in-WriteFault-clause-limit
+returns-in-WriteFault-clause-limit g c = record { reached = λ e. absurd cc; under = λ _. c.in-WriteFault.ensures.below (λ e. absurd cc) }
+
+pub returns-in-Err-clause-stops : goal.returns-in-Err-clause-stops
+returns-in-Err-clause-stops g c = rw c.outcome_at.ensures (record {
+  there = not_missing (Err c.in-Err.fault);
+  below = c.in-Err.ensures.ahead.bound;
+  whole = all_read (Err c.in-Err.fault) _ _ c.in-Err.ensures.stops;
+  too_large = limit_read (Err c.in-Err.fault) _ _ c.in-Err.ensures.stops;
+  spent = λ _. c.in-Err.ensures.live;
+})
+
+pub returns-then-not-more-clause-stops : goal.returns-then-not-more-clause-stops
+returns-then-not-more-clause-stops g c = record {
+  there = λ e. absurd cc;
+  below = c.in-Ok.ensures.ahead.bound;
+  whole = λ _. (c.in-Ok.ensures.whole (ap (λ (b : Bool). Ok b) c.if-not-more.true)).1;
+  too_large = λ e. absurd cc;
+  spent = λ _. c.in-Ok.ensures.live ∙ c.if-not-more.true;
+}
+
+pub returns-in-LimitReached-clause-stops : goal.returns-in-LimitReached-clause-stops
+returns-in-LimitReached-clause-stops g c = record { there = λ e. absurd cc; below = c.in-Ok.ensures.ahead.bound; whole = λ e. absurd cc; too_large = λ e. absurd cc; spent = λ e. absurd cc }
+
+pub returns-in-GateFault-clause-stops : goal.returns-in-GateFault-clause-stops
+returns-in-GateFault-clause-stops g c = record { there = λ e. absurd cc; below = c.in-Ok.ensures.ahead.bound; whole = λ e. absurd cc; too_large = λ e. absurd cc; spent = λ e. absurd cc }
+
+pub returns-in-WriteFault-clause-stops : goal.returns-in-WriteFault-clause-stops
+returns-in-WriteFault-clause-stops g c = record { there = λ e. absurd cc; below = c.in-Ok.ensures.ahead.bound; whole = λ e. absurd cc; too_large = λ e. absurd cc; spent = λ e. absurd cc }

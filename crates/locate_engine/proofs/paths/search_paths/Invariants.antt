@@ -4,7 +4,8 @@ use Rattle.byte_feed.specs.Feed.{Draws}
 use Rattle.byte_feed.specs.Paths.{PathAt, after_paths}
 use Rattle.byte_feed.specs.Calls.{MovedKnown}
 use Rattle.locate_engine.specs.Passing.{rule_of}
-use Rattle.locate_engine.specs.Searched.{OneDirectoryLeft, stand, steps_over}
+use Rattle.locate_engine.specs.Searched.{stand, steps_over}
+use Rattle.locate_engine.specs.Streamed.{OneDirectoryLeft}
 use Rattle.locate_engine.specs.Asked.{Tells}
 use Rattle.locate_engine.proofs.Exits.{SoFar}
 use Rattle.locate_engine.proofs.paths.search_paths.Given as goal
@@ -14,9 +15,9 @@ invariant-paths g l = record {
   live : IsTrue (g.P.PathStream.is_live l.stream);
   gone : (given : List PathAt)
       × MovedKnown (g.P.PathStream.to_come l.fn.stream) (g.P.PathStream.to_come l.stream) (after_paths given) (g.P.PathStream.feed l.fn.stream) (g.S.Source.left l.fn.src) (g.P.PathStream.feed l.stream) (g.S.Source.left l.src)
-      × (l.steps ≤ l.fn.steps + steps_over (g.M.Matcher.bound l.fn.matcher) given)
+      × (l.steps ≤ l.fn.steps + steps_over (g.M.Matcher.sought l.fn.matcher).bound given)
       × ((told : Tests) → Tells (g.P.PathStream.is_gated l.fn.stream || l.query.existing) (g.G.Gate.tests l.fn.gate) told → OneDirectoryLeft (g.P.PathStream.is_gated l.fn.stream) (g.P.PathStream.to_come l.fn.stream) (g.P.PathStream.feed l.fn.stream) (g.S.Source.left l.fn.src) →
-      SoFar (rule_of (g.M.Matcher.test l.fn.matcher) l.query (g.P.PathStream.is_gated l.fn.stream) told) (g.M.Matcher.bound l.fn.matcher) (g.P.PathStream.to_come l.fn.stream) (g.P.PathStream.feed l.fn.stream) (g.S.Source.left l.fn.src) given l.block
+      SoFar (rule_of (g.M.Matcher.sought l.fn.matcher).wanted l.query (g.P.PathStream.is_gated l.fn.stream) told) (g.M.Matcher.sought l.fn.matcher).bound (g.P.PathStream.to_come l.fn.stream) (g.P.PathStream.feed l.fn.stream) (g.S.Source.left l.fn.src) given l.block
       (stand (g.K.Sink.taken l.fn.out) l.fn.tally.matched (g.G.Gate.asks l.fn.gate)) (stand (g.K.Sink.taken l.out) l.tally.matched (g.G.Gate.asks l.gate)) l.fn.steps l.steps);
   rises : l.fn.tally.matched ≤ l.tally.matched;
   within : l.tally.matched ≤ l.fn.tally.matched + g.P.PathStream.stored l.stream;
@@ -33,8 +34,7 @@ invariant-paths g l = record {
   asked : g.G.Gate.asks l.fn.gate ≤ g.G.Gate.asks l.gate;
   gated : g.P.PathStream.is_gated l.stream ≡ g.P.PathStream.is_gated l.fn.stream;
   tests : g.G.Gate.tests l.gate ≡ g.G.Gate.tests l.fn.gate;
-  test : g.M.Matcher.test l.matcher ≡ g.M.Matcher.test l.fn.matcher;
-  bound : g.M.Matcher.bound l.matcher ≡ g.M.Matcher.bound l.fn.matcher;
+  sought : g.M.Matcher.sought l.matcher ≡ g.M.Matcher.sought l.fn.matcher;
 }
 
 abbrev pub decreases-paths : goal.decreases-paths

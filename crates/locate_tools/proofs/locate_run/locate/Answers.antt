@@ -1,8 +1,8 @@
-use Rattle.std.proofs.Common.{refl, subst, List}
+use Rattle.std.proofs.Common.{refl, ap, subst, List}
 use Rattle.tool_words.specs.LocateSeen.{seen}
 use Rattle.locate_engine.specs.declared.outcome.Outcome.{Outcome}
-use Rattle.locate_tools.specs.Standing.{standing}
-use Rattle.locate_tools.specs.Ran.{Concludes}
+use Rattle.locate_engine.specs.Globs.{sought_of}
+use Rattle.locate_tools.specs.LocateRun.{Concludes}
 use Rattle.locate_tools.proofs.Queries.{below_query, none_of, ran_by}
 use Rattle.locate_tools.proofs.Runs.{run_done}
 use Rattle.locate_tools.proofs.locate_run.locate.Goals as goal
@@ -13,14 +13,14 @@ try_databases-silent-requires-clause-below g c = λ plain some. below_query c.in
 pub returns-clause-run : goal.returns-clause-run
 returns-clause-run g c =
     let items = c.try_databases-silent.new.outcomes.items in
-    run_done (seen c.args.asked.now) _
-    (standing (g.R.Source.given c.args.reader.now) (g.G.Gate.asks c.args.gate.now) 0 (g.P.BufferedSink.held_back c.args.out.now) (g.P.Sink.taken c.args.out.now) (g.R.Source.faults c.args.reader.now) (g.G.Gate.faults c.args.gate.now) (g.P.Sink.faults c.args.out.now))
-    (standing (g.R.Source.given c.try_databases-silent.new.reader) (g.G.Gate.asks c.try_databases-silent.new.gate) 0 (g.P.BufferedSink.held_back c.conclude-cause.new.out) (g.P.Sink.taken c.conclude-cause.new.out) (g.R.Source.faults c.try_databases-silent.new.reader) (g.G.Gate.faults c.try_databases-silent.new.gate) (g.P.Sink.faults c.conclude-cause.new.out))
+    run_done (seen c.args.asked.now)
+    (record { files = g.R.Reader.files c.args.reader.now; given = g.R.Source.given c.args.reader.now; reads_failed = g.R.Source.faults c.args.reader.now; tests = g.G.Gate.tests c.args.gate.now; asks = g.G.Gate.asks c.args.gate.now; gate_failed = g.G.Gate.faults c.args.gate.now; taken = g.P.Sink.taken c.args.out.now; held_back = g.P.BufferedSink.held_back c.args.out.now; writes_failed = g.P.Sink.faults c.args.out.now; matched = 0 })
+    (record { files = g.R.Reader.files c.try_databases-silent.new.reader; given = g.R.Source.given c.try_databases-silent.new.reader; reads_failed = g.R.Source.faults c.try_databases-silent.new.reader; tests = g.G.Gate.tests c.try_databases-silent.new.gate; asks = g.G.Gate.asks c.try_databases-silent.new.gate; gate_failed = g.G.Gate.faults c.try_databases-silent.new.gate; taken = g.P.Sink.taken c.conclude-cause.new.out; held_back = g.P.BufferedSink.held_back c.conclude-cause.new.out; writes_failed = g.P.Sink.faults c.conclude-cause.new.out; matched = 0 })
     c.new.result c.conclude-cause.result refl c.conclude-cause.ensures.remembered
-    (ran_by (seen c.args.asked.now) _ _
-    (standing (g.R.Source.given c.try_databases-silent.new.reader) (g.G.Gate.asks c.try_databases-silent.new.gate) 0 (g.P.BufferedSink.held_back c.conclude-cause.new.out) (g.P.Sink.taken c.conclude-cause.new.out) (g.R.Source.faults c.try_databases-silent.new.reader) (g.G.Gate.faults c.try_databases-silent.new.gate) (g.P.Sink.faults c.conclude-cause.new.out))
-    (standing (g.R.Source.given c.try_databases-silent.new.reader) (g.G.Gate.asks c.try_databases-silent.new.gate) c.try_databases-silent.new.tally.matched (g.P.BufferedSink.held_back c.try_databases-silent.new.out) (g.P.Sink.taken c.try_databases-silent.new.out) (g.R.Source.faults c.try_databases-silent.new.reader) (g.G.Gate.faults c.try_databases-silent.new.gate) (g.P.Sink.faults c.try_databases-silent.new.out))
-    c.new.result items c.conclude-cause.result c.in-Ok.query _ c.in-Ok.ensures c.databases_of-names.ensures.names c.new.ensures
+    (ran_by (seen c.args.asked.now) _
+    (record { files = g.R.Reader.files c.try_databases-silent.new.reader; given = g.R.Source.given c.try_databases-silent.new.reader; reads_failed = g.R.Source.faults c.try_databases-silent.new.reader; tests = g.G.Gate.tests c.try_databases-silent.new.gate; asks = g.G.Gate.asks c.try_databases-silent.new.gate; gate_failed = g.G.Gate.faults c.try_databases-silent.new.gate; taken = g.P.Sink.taken c.conclude-cause.new.out; held_back = g.P.BufferedSink.held_back c.conclude-cause.new.out; writes_failed = g.P.Sink.faults c.conclude-cause.new.out; matched = 0 })
+    (record { files = g.R.Reader.files c.try_databases-silent.new.reader; given = g.R.Source.given c.try_databases-silent.new.reader; reads_failed = g.R.Source.faults c.try_databases-silent.new.reader; tests = g.G.Gate.tests c.try_databases-silent.new.gate; asks = g.G.Gate.asks c.try_databases-silent.new.gate; gate_failed = g.G.Gate.faults c.try_databases-silent.new.gate; taken = g.P.Sink.taken c.try_databases-silent.new.out; held_back = g.P.BufferedSink.held_back c.try_databases-silent.new.out; writes_failed = g.P.Sink.faults c.try_databases-silent.new.out; matched = c.try_databases-silent.new.tally.matched })
+    c.new.result items c.conclude-cause.result c.in-Ok.query _ _ c.in-Ok.ensures (ap sought_of c.new-matcher.ensures) c.databases_of-names.ensures.names c.new.ensures
     c.try_databases-silent.ensures.goes c.try_databases-silent.ensures.complete
     (subst (λ (l : List Outcome). Concludes (seen c.args.asked.now) l c.try_databases-silent.new.tally.matched (g.P.Sink.taken c.try_databases-silent.new.out) (g.P.Sink.taken c.conclude-cause.new.out) (g.P.BufferedSink.held_back c.try_databases-silent.new.out) (g.P.BufferedSink.held_back c.conclude-cause.new.out) (g.P.Sink.faults c.try_databases-silent.new.out) (g.P.Sink.faults c.conclude-cause.new.out) c.conclude-cause.result) c.as_slice.ensures.value c.conclude-cause.ensures.concludes)
     refl refl refl refl)

@@ -1,7 +1,7 @@
 use Rattle.std.proofs.Common.{ap, subst, ℕ, List, [], ◌++◌}
 use Rattle.loc_outside.specs.Outside.{AppendsPart}
 use Rattle.tool_words.specs.LocateSeen.{seen}
-use Rattle.locate_tools.specs.Located.{databases_of}
+use Rattle.locate_tools.specs.LocateExact.{databases_of}
 use Rattle.locate_tools.specs.Messages.{cause_message}
 use Rattle.locate_tools.specs.Told.{messages}
 use Rattle.locate_tools.proofs.Going.{tells_end}

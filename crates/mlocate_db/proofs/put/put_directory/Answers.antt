@@ -1,5 +1,5 @@
 use Rattle.std.proofs.Common.{ℕ}
-use Rattle.mlocate_db.proofs.WrittenParts.{err_short, err_less}
+use Rattle.loc_outside.proofs.LessTaken.{err_short, err_less}
 use Rattle.mlocate_db.specs.declared.item.Numbers.{Numbers}
 use Rattle.mlocate_db.proofs.put.put_directory.Goals as goal
 

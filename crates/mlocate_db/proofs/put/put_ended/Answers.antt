@@ -1,4 +1,4 @@
-use Rattle.mlocate_db.proofs.WrittenParts.{err_short}
+use Rattle.loc_outside.proofs.LessTaken.{err_short}
 use Rattle.mlocate_db.proofs.put.put_ended.Goals as goal
 
 pub returns-clause-short : goal.returns-clause-short

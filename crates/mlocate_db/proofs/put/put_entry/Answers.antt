@@ -1,4 +1,4 @@
-use Rattle.mlocate_db.proofs.WrittenParts.{short_first, part_of, err_from, err_short, err_less}
+use Rattle.loc_outside.proofs.LessTaken.{short_first, part_of, err_from, err_short, err_less}
 use Rattle.mlocate_db.proofs.put.put_entry.Goals as goal
 
 pub returns-in_err-put_all-clause-short : goal.returns-in_err-put_all-clause-short

@@ -6,7 +6,7 @@ use Rattle.byte_feed.specs.Field.{byte_at}
 use Rattle.byte_feed.proofs.Streams.{stream_then, stream_err, stream_ok, stream_stop}
 use Rattle.mlocate_db.specs.declared.item.Listed.TheVariants as listeds
 use Rattle.mlocate_db.specs.Items.{room_in, listed_at, entry_at}
-use Rattle.mlocate_db.proofs.AheadReads.{ahead_then}
+use Rattle.byte_feed.proofs.AheadReads.{ahead_then}
 use Rattle.mlocate_db.proofs.ItemSteps.{bad_kind}
 use Rattle.mlocate_db.proofs.stream.read_entry.Goals as goal
 

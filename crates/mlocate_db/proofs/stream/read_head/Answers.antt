@@ -4,7 +4,7 @@ use Rattle.byte_feed.specs.Field.{text_at}
 use Rattle.byte_feed.proofs.Streams.{stream_then, stream_err, stream_ok, stream_same}
 use Rattle.mlocate_db.specs.declared.item.Numbers.{Numbers}
 use Rattle.mlocate_db.specs.Items.{Head, numbers_at, as_head, head_at}
-use Rattle.mlocate_db.proofs.AheadReads.{ahead_then}
+use Rattle.byte_feed.proofs.AheadReads.{ahead_then}
 use Rattle.mlocate_db.proofs.ItemSteps.{path_then, head_parts}
 use Rattle.mlocate_db.proofs.stream.read_head.Goals as goal
 

@@ -1,6 +1,6 @@
 use Rattle.std.proofs.Common.{length, ap, arith}
 use Rattle.byte_feed.proofs.Draws.{draws_then}
-use Rattle.mlocate_db.proofs.AheadReads.{ahead_then}
+use Rattle.byte_feed.proofs.AheadReads.{ahead_then}
 use Rattle.mlocate_db.proofs.Starts.{fixed_broken, root_broken, block_broken, header_read}
 use Rattle.mlocate_db.proofs.stream.read_header.Goals as goal
 

@@ -37,7 +37,7 @@ walk-init g c = record {
       let relied = step_relied dirs (plan_of c.args.rules.now) c.root_of-path.result [] (c.root_of-path.result ∷ []) (g.V.Voucher.records c.args.voucher.now) (g.V.Voucher.records c.args.voucher.now) (λ done went. WroteBlocks (plan_of c.args.rules.now) c.args.now done (taken (g.D.Sink.taken c.args.sink.now) (g.P.Sink.taken c.args.echo.now)) (taken (g.D.Sink.taken c.put_front.new.sink) (g.P.Sink.taken c.args.echo.now))) (fewer_same (g.V.Voucher.records c.args.voucher.now)) honest path_fits refl s0 in
       let share = stat_share (g.T.Tree.priced c.args.tree.now) c.bytes.result.now c.args.rules.now.root _ _ (c.bytes.ensures.value ∙ c.root_of-path.ensures) c.in-Ok.ensures.stats in
       let passes = c.in_ok-come.ensures.done dirs told2 f.dir f.is time relied in
-      let counts : Counts dirs (plan_of c.args.rules.now) (record { taken = g.D.Sink.taken c.args.sink.now; echoed = g.P.Sink.taken c.args.echo.now; stats = g.T.Tree.stats c.args.tree.now + (if g.T.Tree.priced c.args.tree.now c.args.rules.now.root then 1 else 0); openings = g.T.Tree.openings c.args.tree.now; records = known (g.V.Voucher.records c.args.voucher.now); priced = g.T.Tree.priced c.args.tree.now; limits = c.args.limits.now }) c.root_of-path.result (record { standing = standing (g.D.Sink.taken c.put_front.new.sink) (g.P.Sink.taken c.args.echo.now) c.new-progress.result; stats = g.T.Tree.stats c.stat.new.self; openings = g.T.Tree.openings c.stat.new.self; whole = answers_all (g.V.Voucher.records c.args.voucher.now) (g.V.Voucher.ordered c.args.voucher.now) (g.V.Voucher.unbroken c.args.voucher.now) }) (record { standing = standing (g.D.Sink.taken c.come.new.sink) (g.P.Sink.taken c.come.new.echo) c.come.new.progress; stats = g.T.Tree.stats c.come.new.tree; openings = g.T.Tree.openings c.come.new.tree; whole = answers_all (g.V.Voucher.records c.args.voucher.now) (g.V.Voucher.ordered c.args.voucher.now) (g.V.Voucher.unbroken c.come.new.voucher) }) = record { mark = mark_before (g.V.Voucher.records c.args.voucher.now) (g.V.Voucher.ordered c.args.voucher.now) _ _ c.in_ok-come.ensures.unbroken; opened = c.in_ok-come.ensures.exact dirs told2 f.dir f.is time; few = omega (arith, c.in_ok-come.ensures.within, c.requires.limits.1); adds = c.in_ok-come.ensures.adds; narrow = c.in_ok-come.ensures.kept_limit (honest_known _ dirs (plan_of c.args.rules.now) honest) dirs told2 f.dir f.is time } in
+      let counts : Counts dirs (plan_of c.args.rules.now) (record { taken = g.D.Sink.taken c.args.sink.now; echoed = g.P.Sink.taken c.args.echo.now; stats = g.T.Tree.stats c.args.tree.now + (if g.T.Tree.priced c.args.tree.now c.args.rules.now.root then 1 else 0); openings = g.T.Tree.openings c.args.tree.now; records = known (g.V.Voucher.records c.args.voucher.now); priced = g.T.Tree.priced c.args.tree.now; limits = c.args.limits.now }) c.root_of-path.result (record { standing = standing (g.D.Sink.taken c.put_front.new.sink) (g.P.Sink.taken c.args.echo.now) c.new-progress.result; stats = g.T.Tree.stats c.stat.new.self; openings = g.T.Tree.openings c.stat.new.self; whole = answers_all (g.V.Voucher.records c.args.voucher.now) (g.V.Voucher.ordered c.args.voucher.now) (g.V.Voucher.unbroken c.args.voucher.now) }) (record { standing = standing (g.D.Sink.taken c.come.new.sink) (g.P.Sink.taken c.come.new.echo) c.come.new.progress; stats = g.T.Tree.stats c.come.new.tree; openings = g.T.Tree.openings c.come.new.tree; whole = answers_all (g.V.Voucher.records c.args.voucher.now) (g.V.Voucher.ordered c.args.voucher.now) (g.V.Voucher.unbroken c.come.new.voucher) }) = record { mark = mark_before (g.V.Voucher.records c.args.voucher.now) (g.V.Voucher.ordered c.args.voucher.now) _ _ c.in_ok-come.ensures.leaves.was_unbroken; opened = c.in_ok-come.ensures.exact dirs told2 f.dir f.is time; few = omega (arith, c.in_ok-come.ensures.within, c.requires.limits.1); adds = c.in_ok-come.ensures.adds; narrow = c.in_ok-come.ensures.kept_limit (honest_known _ dirs (plan_of c.args.rules.now) honest) dirs told2 f.dir f.is time } in
       stands_root dirs (plan_of c.args.rules.now) c.args.now (record { taken = g.D.Sink.taken c.args.sink.now; echoed = g.P.Sink.taken c.args.echo.now; stats = g.T.Tree.stats c.args.tree.now + (if g.T.Tree.priced c.args.tree.now c.args.rules.now.root then 1 else 0); openings = g.T.Tree.openings c.args.tree.now; records = known (g.V.Voucher.records c.args.voucher.now); priced = g.T.Tree.priced c.args.tree.now; limits = c.args.limits.now }) c.root_of-path.result (record { standing = standing (g.D.Sink.taken c.put_front.new.sink) (g.P.Sink.taken c.args.echo.now) c.new-progress.result; stats = g.T.Tree.stats c.stat.new.self; openings = g.T.Tree.openings c.stat.new.self; whole = answers_all (g.V.Voucher.records c.args.voucher.now) (g.V.Voucher.ordered c.args.voucher.now) (g.V.Voucher.unbroken c.args.voucher.now) }) (record { standing = standing (g.D.Sink.taken c.come.new.sink) (g.P.Sink.taken c.come.new.echo) c.come.new.progress; stats = g.T.Tree.stats c.come.new.tree; openings = g.T.Tree.openings c.come.new.tree; whole = answers_all (g.V.Voucher.records c.args.voucher.now) (g.V.Voucher.ordered c.args.voucher.now) (g.V.Voucher.unbroken c.come.new.voucher) }) root_is fits c.in-Ok-put_front.ensures.ok refl c.new-progress.ensures.pending c.new-progress.ensures.tried c.new-progress.ensures.no_blocks c.new-progress.ensures.no_entries c.in-Ok.ensures.openings passes counts (omega (arith, share, c.in_ok-come.ensures.stats));
   there = λ dirs told none.
       let f = stat_found _ dirs c.root_of-path.result c.in-Ok.found c.in-Some.times told c.in-Some.is (subst (λ (p : List ℕ). StatsAs (g.T.Tree.dirs c.args.tree.now) p (Ok c.in-Ok.found)) c.bytes.ensures.value c.in-Ok.ensures.found) in
@@ -59,20 +59,20 @@ walk-init g c = record {
       low_step c.root_of-path.result [] c.come.new.progress.pending adds tt;
   keeps =
       let adds = subst (λ (l : List (List ℕ)). AddsChildren c.root_of-path.result l c.come.new.progress.pending) c.new-progress.ensures.pending c.in_ok-come.ensures.adds in
-      keeps_begin c.root_of-path.result c.come.new.progress.pending (g.V.Voucher.records c.args.voucher.now) (g.V.Voucher.records c.come.new.voucher) (g.V.Voucher.ordered c.args.voucher.now) (g.V.Voucher.unbroken c.come.new.voucher) adds c.in_ok-come.ensures.leaves;
-  fewer = fewer_left c.root_of-path.result (g.V.Voucher.records c.args.voucher.now) (g.V.Voucher.records c.args.voucher.now) _ _ _ (fewer_same (g.V.Voucher.records c.args.voucher.now)) c.in_ok-come.ensures.leaves;
-  ordered = c.in_ok-come.ensures.ordered;
+      keeps_begin c.root_of-path.result c.come.new.progress.pending (g.V.Voucher.records c.args.voucher.now) (g.V.Voucher.records c.come.new.voucher) (g.V.Voucher.ordered c.args.voucher.now) (g.V.Voucher.unbroken c.come.new.voucher) adds c.in_ok-come.ensures.leaves.left;
+  fewer = fewer_left c.root_of-path.result (g.V.Voucher.records c.args.voucher.now) (g.V.Voucher.records c.args.voucher.now) _ _ _ (fewer_same (g.V.Voucher.records c.args.voucher.now)) c.in_ok-come.ensures.leaves.left;
+  ordered = c.in_ok-come.ensures.leaves.keeps_order;
   sound = c.in_ok-come.ensures.sound;
   tried = c.in_ok-come.ensures.within;
   counted = c.in_ok-come.ensures.counted;
   openings = omega (arith, c.in_ok-come.ensures.openings, c.in-Ok.ensures.openings, c.new-progress.ensures.tried);
   quiet = c.in_ok-come.ensures.quiet;
-  faults = omega (arith, c.in_ok-come.ensures.later, c.in-Ok.ensures.cause.later);
+  faults = omega (arith, c.in_ok-come.ensures.failures.tree_later, c.in-Ok.ensures.cause.later);
   kept = g.met.T.Tree.keeps_on _ _ _ c.in-Ok.ensures.kept c.in_ok-come.ensures.kept;
   voucher_kept = c.in_ok-come.ensures.voucher_kept;
-  sink_faults = omega (arith, c.in_ok-come.ensures.sink_later, c.in-Ok-put_front.ensures.cause.later);
+  sink_faults = omega (arith, c.in_ok-come.ensures.failures.sink_later, c.in-Ok-put_front.ensures.cause.later);
   sink_kept = g.met.D.Sink.keeps_on _ _ _ c.in-Ok-put_front.ensures.kept c.in_ok-come.ensures.sink_kept;
-  echo_faults = c.in_ok-come.ensures.echo_later;
+  echo_faults = c.in_ok-come.ensures.failures.echo_later;
   echo_kept = c.in_ok-come.ensures.echo_kept;
 }
 
@@ -90,8 +90,8 @@ walk-preserved g c = record {
       let looks : g.T.Tree.stats c.step.new.tree ≤ g.T.Tree.stats c.walk.tree + weight (plan_of c.args.rules.now).pruned (g.T.Tree.priced c.args.tree.now) (c.pop.new.into ∷ []) = omega (arith, priced, c.in_ok-step.ensures.stats) in
       let passes = c.in_ok-step.ensures.done dirs told2 relied in
       let counts : Counts dirs (plan_of c.args.rules.now) (record { taken = g.D.Sink.taken c.args.sink.now; echoed = g.P.Sink.taken c.args.echo.now; stats = g.T.Tree.stats c.args.tree.now + (if g.T.Tree.priced c.args.tree.now c.args.rules.now.root then 1 else 0); openings = g.T.Tree.openings c.args.tree.now; records = known (g.V.Voucher.records c.args.voucher.now); priced = g.T.Tree.priced c.args.tree.now; limits = c.args.limits.now }) c.pop.new.into (record { standing = standing (g.D.Sink.taken c.walk.sink) (g.P.Sink.taken c.walk.echo) (record { pending = c.pop.new.self; tried = c.walk.progress.tried; counts = c.walk.progress.counts }); stats = g.T.Tree.stats c.walk.tree; openings = g.T.Tree.openings c.walk.tree; whole = answers_all (g.V.Voucher.records c.args.voucher.now) (g.V.Voucher.ordered c.args.voucher.now) (g.V.Voucher.unbroken c.walk.voucher) }) (record { standing = standing (g.D.Sink.taken c.step.new.sink) (g.P.Sink.taken c.step.new.echo) c.step.new.progress; stats = g.T.Tree.stats c.step.new.tree; openings = g.T.Tree.openings c.step.new.tree; whole = answers_all (g.V.Voucher.records c.args.voucher.now) (g.V.Voucher.ordered c.args.voucher.now) (g.V.Voucher.unbroken c.step.new.voucher) }) = record {
-        mark = mark_before (g.V.Voucher.records c.args.voucher.now) (g.V.Voucher.ordered c.args.voucher.now) _ _ c.in_ok-step.ensures.unbroken;
-        opened = λ w. c.in_ok-step.ensures.exact dirs told2 (mark_now (g.V.Voucher.records c.args.voucher.now) (g.V.Voucher.records c.walk.voucher) (g.V.Voucher.ordered c.args.voucher.now) _ _ c.walk.invariant.fewer c.walk.invariant.ordered w) ∙ ap (raised (g.T.Tree.openings c.walk.tree)) (opens_same dirs (plan_of c.args.rules.now) c.pop.new.into c.pop.new.self (known (g.V.Voucher.records c.walk.voucher)) (known (g.V.Voucher.records c.args.voucher.now)) (answers_all (g.V.Voucher.records c.args.voucher.now) (g.V.Voucher.ordered c.args.voucher.now) (g.V.Voucher.unbroken c.walk.voucher)) (fewer_known (g.V.Voucher.records c.args.voucher.now) (g.V.Voucher.records c.walk.voucher) (honest_known _ dirs (plan_of c.args.rules.now) honest) c.walk.invariant.fewer) (mark_before (g.V.Voucher.records c.args.voucher.now) (g.V.Voucher.ordered c.args.voucher.now) _ _ c.in_ok-step.ensures.unbroken w) keeps);
+        mark = mark_before (g.V.Voucher.records c.args.voucher.now) (g.V.Voucher.ordered c.args.voucher.now) _ _ c.in_ok-step.ensures.leaves.was_unbroken;
+        opened = λ w. c.in_ok-step.ensures.exact dirs told2 (mark_now (g.V.Voucher.records c.args.voucher.now) (g.V.Voucher.records c.walk.voucher) (g.V.Voucher.ordered c.args.voucher.now) _ _ c.walk.invariant.fewer c.walk.invariant.ordered w) ∙ ap (raised (g.T.Tree.openings c.walk.tree)) (opens_same dirs (plan_of c.args.rules.now) c.pop.new.into c.pop.new.self (known (g.V.Voucher.records c.walk.voucher)) (known (g.V.Voucher.records c.args.voucher.now)) (answers_all (g.V.Voucher.records c.args.voucher.now) (g.V.Voucher.ordered c.args.voucher.now) (g.V.Voucher.unbroken c.walk.voucher)) (fewer_known (g.V.Voucher.records c.args.voucher.now) (g.V.Voucher.records c.walk.voucher) (honest_known _ dirs (plan_of c.args.rules.now) honest) c.walk.invariant.fewer) (mark_before (g.V.Voucher.records c.args.voucher.now) (g.V.Voucher.ordered c.args.voucher.now) _ _ c.in_ok-step.ensures.leaves.was_unbroken w) keeps);
         few = omega (arith, c.in_ok-step.ensures.within, c.requires.limits.1);
         adds = c.in_ok-step.ensures.adds;
         narrow = narrow_entry c.args.limits.now.names (known (g.V.Voucher.records c.walk.voucher)) (known (g.V.Voucher.records c.args.voucher.now)) dirs (plan_of c.args.rules.now) c.pop.new.into (fewer_known (g.V.Voucher.records c.args.voucher.now) (g.V.Voucher.records c.walk.voucher) (honest_known _ dirs (plan_of c.args.rules.now) honest) c.walk.invariant.fewer) (c.in_ok-step.ensures.kept_limit (some_now (g.V.Voucher.records c.args.voucher.now) (g.V.Voucher.records c.walk.voucher) (honest_known _ dirs (plan_of c.args.rules.now) honest) c.walk.invariant.fewer) dirs told2);
@@ -122,20 +122,20 @@ walk-preserved g c = record {
       let order = subst (Rises Apart) pend c.walk.invariant.order in
       let low = subst Low pend c.walk.invariant.low in
       let keeps = subst (Keeps (known (g.V.Voucher.records c.args.voucher.now)) (known (g.V.Voucher.records c.walk.voucher)) (answers_all (g.V.Voucher.records c.args.voucher.now) (g.V.Voucher.ordered c.args.voucher.now) (g.V.Voucher.unbroken c.walk.voucher))) pend c.walk.invariant.keeps in
-      keeps_step c.pop.new.into c.pop.new.self c.step.new.progress.pending (g.V.Voucher.records c.args.voucher.now) (g.V.Voucher.records c.walk.voucher) (g.V.Voucher.records c.step.new.voucher) (g.V.Voucher.ordered c.args.voucher.now) (g.V.Voucher.ordered c.walk.voucher) (g.V.Voucher.unbroken c.walk.voucher) (g.V.Voucher.unbroken c.step.new.voucher) low.0 order c.in_ok-step.ensures.adds c.walk.invariant.fewer c.walk.invariant.ordered c.in_ok-step.ensures.unbroken c.in_ok-step.ensures.leaves keeps;
-  fewer = fewer_left c.pop.new.into (g.V.Voucher.records c.args.voucher.now) (g.V.Voucher.records c.walk.voucher) _ _ _ c.walk.invariant.fewer c.in_ok-step.ensures.leaves;
-  ordered = λ o. c.in_ok-step.ensures.ordered (c.walk.invariant.ordered o);
+      keeps_step c.pop.new.into c.pop.new.self c.step.new.progress.pending (g.V.Voucher.records c.args.voucher.now) (g.V.Voucher.records c.walk.voucher) (g.V.Voucher.records c.step.new.voucher) (g.V.Voucher.ordered c.args.voucher.now) (g.V.Voucher.ordered c.walk.voucher) (g.V.Voucher.unbroken c.walk.voucher) (g.V.Voucher.unbroken c.step.new.voucher) low.0 order c.in_ok-step.ensures.adds c.walk.invariant.fewer c.walk.invariant.ordered c.in_ok-step.ensures.leaves.was_unbroken c.in_ok-step.ensures.leaves.left keeps;
+  fewer = fewer_left c.pop.new.into (g.V.Voucher.records c.args.voucher.now) (g.V.Voucher.records c.walk.voucher) _ _ _ c.walk.invariant.fewer c.in_ok-step.ensures.leaves.left;
+  ordered = λ o. c.in_ok-step.ensures.leaves.keeps_order (c.walk.invariant.ordered o);
   sound = c.in_ok-step.ensures.sound;
   tried = c.in_ok-step.ensures.within;
   counted = c.in_ok-step.ensures.counted;
   openings = omega (arith, c.in_ok-step.ensures.openings, c.walk.invariant.openings);
   quiet = λ e. c.in_ok-step.ensures.quiet e ∙ c.walk.invariant.quiet e;
-  faults = omega (arith, c.in_ok-step.ensures.later, c.walk.invariant.faults);
+  faults = omega (arith, c.in_ok-step.ensures.failures.tree_later, c.walk.invariant.faults);
   kept = g.met.T.Tree.keeps_on _ _ _ c.walk.invariant.kept c.in_ok-step.ensures.kept;
   voucher_kept = g.met.V.Voucher.keeps_on _ _ _ c.walk.invariant.voucher_kept c.in_ok-step.ensures.voucher_kept;
-  sink_faults = omega (arith, c.in_ok-step.ensures.sink_later, c.walk.invariant.sink_faults);
+  sink_faults = omega (arith, c.in_ok-step.ensures.failures.sink_later, c.walk.invariant.sink_faults);
   sink_kept = g.met.D.Sink.keeps_on _ _ _ c.walk.invariant.sink_kept c.in_ok-step.ensures.sink_kept;
-  echo_faults = omega (arith, c.in_ok-step.ensures.echo_later, c.walk.invariant.echo_faults);
+  echo_faults = omega (arith, c.in_ok-step.ensures.failures.echo_later, c.walk.invariant.echo_faults);
   echo_kept = g.met.P.Sink.keeps_on _ _ _ c.walk.invariant.echo_kept c.in_ok-step.ensures.echo_kept;
 }
 
@@ -207,7 +207,7 @@ returns-in_err-step-clause-stopped g c =
       path = c.pop.new.into;
       came = came_to dirs (plan_of c.args.rules.now) c.args.now (record { taken = g.D.Sink.taken c.args.sink.now; echoed = g.P.Sink.taken c.args.echo.now; stats = g.T.Tree.stats c.args.tree.now + (if g.T.Tree.priced c.args.tree.now c.args.rules.now.root then 1 else 0); openings = g.T.Tree.openings c.args.tree.now; records = known (g.V.Voucher.records c.args.voucher.now); priced = g.T.Tree.priced c.args.tree.now; limits = c.args.limits.now }) (record { standing = standing (g.D.Sink.taken c.walk.sink) (g.P.Sink.taken c.walk.echo) c.walk.progress; stats = g.T.Tree.stats c.walk.tree; openings = g.T.Tree.openings c.walk.tree; whole = answers_all (g.V.Voucher.records c.args.voucher.now) (g.V.Voucher.ordered c.args.voucher.now) (g.V.Voucher.unbroken c.walk.voucher) }) c.pop.new.into c.pop.new.self (g.D.Sink.taken c.step.new.sink) (g.P.Sink.taken c.step.new.echo) fits pend order c.in_err-step.ensures.unpruned c.walk.invariant.tried (c.in_err-step.ensures.whole (whole_by c.in_err-step.field-0.0 TooManyNames (search rules) refl)) s;
       wide = n;
-      unvouched = λ w. (unvouched_entry (known (g.V.Voucher.records c.walk.voucher)) (known (g.V.Voucher.records c.args.voucher.now)) (answers_all (g.V.Voucher.records c.args.voucher.now) (g.V.Voucher.ordered c.args.voucher.now) (g.V.Voucher.unbroken c.walk.voucher)) c.pop.new.into c.pop.new.self (time_of n.dir.times) ((plan_of c.args.rules.now).device_of c.pop.new.into) (fewer_known (g.V.Voucher.records c.args.voucher.now) (g.V.Voucher.records c.walk.voucher) (honest_known _ dirs (plan_of c.args.rules.now) honest) c.walk.invariant.fewer) (mark_before (g.V.Voucher.records c.args.voucher.now) (g.V.Voucher.ordered c.args.voucher.now) _ _ c.in_err-step.ensures.unbroken w) keeps (c.in_err-step.ensures.listed (search rules) dirs n.dir told2 n.there (mark_now (g.V.Voucher.records c.args.voucher.now) (g.V.Voucher.records c.walk.voucher) (g.V.Voucher.ordered c.args.voucher.now) _ _ c.walk.invariant.fewer c.walk.invariant.ordered w)));
+      unvouched = λ w. (unvouched_entry (known (g.V.Voucher.records c.walk.voucher)) (known (g.V.Voucher.records c.args.voucher.now)) (answers_all (g.V.Voucher.records c.args.voucher.now) (g.V.Voucher.ordered c.args.voucher.now) (g.V.Voucher.unbroken c.walk.voucher)) c.pop.new.into c.pop.new.self (time_of n.dir.times) ((plan_of c.args.rules.now).device_of c.pop.new.into) (fewer_known (g.V.Voucher.records c.args.voucher.now) (g.V.Voucher.records c.walk.voucher) (honest_known _ dirs (plan_of c.args.rules.now) honest) c.walk.invariant.fewer) (mark_before (g.V.Voucher.records c.args.voucher.now) (g.V.Voucher.ordered c.args.voucher.now) _ _ c.in_err-step.ensures.leaves.was_unbroken w) keeps (c.in_err-step.ensures.listed (search rules) dirs n.dir told2 n.there (mark_now (g.V.Voucher.records c.args.voucher.now) (g.V.Voucher.records c.walk.voucher) (g.V.Voucher.ordered c.args.voucher.now) _ _ c.walk.invariant.fewer c.walk.invariant.ordered w)));
     })
     (λ e dirs told honest.
     let told2 = g.met.T.Tree.keeps_dirs _ _ c.walk.invariant.kept ∙ told in
@@ -231,7 +231,7 @@ returns-in_err-step-clause-exceeded g c =
     let keeps = subst (Keeps (known (g.V.Voucher.records c.args.voucher.now)) (known (g.V.Voucher.records c.walk.voucher)) (answers_all (g.V.Voucher.records c.args.voucher.now) (g.V.Voucher.ordered c.args.voucher.now) (g.V.Voucher.unbroken c.walk.voucher))) pend c.walk.invariant.keeps in
     let n = c.in_err-step.ensures.many_names (search rules) dirs told2 in
     wide_hand dirs (plan_of c.args.rules.now) c.pop.new.into c.pop.new.self c.walk.progress.pending (known (g.V.Voucher.records c.args.voucher.now)) c.args.limits.now.names (Stands (plan_of c.args.rules.now) c.args.now (record { taken = g.D.Sink.taken c.args.sink.now; echoed = g.P.Sink.taken c.args.echo.now; stats = g.T.Tree.stats c.args.tree.now + (if g.T.Tree.priced c.args.tree.now c.args.rules.now.root then 1 else 0); openings = g.T.Tree.openings c.args.tree.now; records = known (g.V.Voucher.records c.args.voucher.now); priced = g.T.Tree.priced c.args.tree.now; limits = c.args.limits.now }) (record { standing = standing (g.D.Sink.taken c.walk.sink) (g.P.Sink.taken c.walk.echo) c.walk.progress; stats = g.T.Tree.stats c.walk.tree; openings = g.T.Tree.openings c.walk.tree; whole = answers_all (g.V.Voucher.records c.args.voucher.now) (g.V.Voucher.ordered c.args.voucher.now) (g.V.Voucher.unbroken c.walk.voucher) })) fits pend n
-    (unvouched_entry (known (g.V.Voucher.records c.walk.voucher)) (known (g.V.Voucher.records c.args.voucher.now)) (answers_all (g.V.Voucher.records c.args.voucher.now) (g.V.Voucher.ordered c.args.voucher.now) (g.V.Voucher.unbroken c.walk.voucher)) c.pop.new.into c.pop.new.self (time_of n.dir.times) ((plan_of c.args.rules.now).device_of c.pop.new.into) (fewer_known (g.V.Voucher.records c.args.voucher.now) (g.V.Voucher.records c.walk.voucher) (honest_known _ dirs (plan_of c.args.rules.now) honest) c.walk.invariant.fewer) (mark_before (g.V.Voucher.records c.args.voucher.now) (g.V.Voucher.ordered c.args.voucher.now) _ _ c.in_err-step.ensures.unbroken w) keeps (c.in_err-step.ensures.listed (search rules) dirs n.dir told2 n.there (mark_now (g.V.Voucher.records c.args.voucher.now) (g.V.Voucher.records c.walk.voucher) (g.V.Voucher.ordered c.args.voucher.now) _ _ c.walk.invariant.fewer c.walk.invariant.ordered w))) s)
+    (unvouched_entry (known (g.V.Voucher.records c.walk.voucher)) (known (g.V.Voucher.records c.args.voucher.now)) (answers_all (g.V.Voucher.records c.args.voucher.now) (g.V.Voucher.ordered c.args.voucher.now) (g.V.Voucher.unbroken c.walk.voucher)) c.pop.new.into c.pop.new.self (time_of n.dir.times) ((plan_of c.args.rules.now).device_of c.pop.new.into) (fewer_known (g.V.Voucher.records c.args.voucher.now) (g.V.Voucher.records c.walk.voucher) (honest_known _ dirs (plan_of c.args.rules.now) honest) c.walk.invariant.fewer) (mark_before (g.V.Voucher.records c.args.voucher.now) (g.V.Voucher.ordered c.args.voucher.now) _ _ c.in_err-step.ensures.leaves.was_unbroken w) keeps (c.in_err-step.ensures.listed (search rules) dirs n.dir told2 n.there (mark_now (g.V.Voucher.records c.args.voucher.now) (g.V.Voucher.records c.walk.voucher) (g.V.Voucher.ordered c.args.voucher.now) _ _ c.walk.invariant.fewer c.walk.invariant.ordered w))) s)
     (λ e dirs told honest.
     let fits = normal_fits c.pop.new.into (c.pop.ensures.normal c.walk-test.true) in
     let pend : c.walk.progress.pending ≡ c.pop.new.into ∷ c.pop.new.self = when_true c.pop.result (c.walk.progress.pending ≡ c.pop.new.into ∷ c.pop.new.self) (c.walk.progress.pending ≡ []) c.walk-test.true c.pop.ensures.popped in
@@ -271,8 +271,8 @@ returns-in_err-step-clause-asked_of g c =
     let s = c.walk.invariant.told dirs told honest in
     let keeps = subst (Keeps (known (g.V.Voucher.records c.args.voucher.now)) (known (g.V.Voucher.records c.walk.voucher)) (answers_all (g.V.Voucher.records c.args.voucher.now) (g.V.Voucher.ordered c.args.voucher.now) (g.V.Voucher.unbroken c.walk.voucher))) pend c.walk.invariant.keeps in
     let room = unvouched_room dirs (plan_of c.args.rules.now) c.pop.new.into c.pop.new.self c.walk.progress.pending (known (g.V.Voucher.records c.args.voucher.now)) (Stands (plan_of c.args.rules.now) c.args.now (record { taken = g.D.Sink.taken c.args.sink.now; echoed = g.P.Sink.taken c.args.echo.now; stats = g.T.Tree.stats c.args.tree.now + (if g.T.Tree.priced c.args.tree.now c.args.rules.now.root then 1 else 0); openings = g.T.Tree.openings c.args.tree.now; records = known (g.V.Voucher.records c.args.voucher.now); priced = g.T.Tree.priced c.args.tree.now; limits = c.args.limits.now }) (record { standing = standing (g.D.Sink.taken c.walk.sink) (g.P.Sink.taken c.walk.echo) c.walk.progress; stats = g.T.Tree.stats c.walk.tree; openings = g.T.Tree.openings c.walk.tree; whole = answers_all (g.V.Voucher.records c.args.voucher.now) (g.V.Voucher.ordered c.args.voucher.now) (g.V.Voucher.unbroken c.walk.voucher) })) fits pend s in
-    let same = opens_same dirs (plan_of c.args.rules.now) c.pop.new.into c.pop.new.self (known (g.V.Voucher.records c.walk.voucher)) (known (g.V.Voucher.records c.args.voucher.now)) (answers_all (g.V.Voucher.records c.args.voucher.now) (g.V.Voucher.ordered c.args.voucher.now) (g.V.Voucher.unbroken c.walk.voucher)) (fewer_known (g.V.Voucher.records c.args.voucher.now) (g.V.Voucher.records c.walk.voucher) (honest_known _ dirs (plan_of c.args.rules.now) honest) c.walk.invariant.fewer) (mark_before (g.V.Voucher.records c.args.voucher.now) (g.V.Voucher.ordered c.args.voucher.now) _ _ c.in_err-step.ensures.unbroken w) keeps in
-    omega (arith, room, same, s.written.opened (mark_before (g.V.Voucher.records c.args.voucher.now) (g.V.Voucher.ordered c.args.voucher.now) _ _ c.in_err-step.ensures.unbroken w), c.in_err-step.ensures.opened dirs told2 (mark_now (g.V.Voucher.records c.args.voucher.now) (g.V.Voucher.records c.walk.voucher) (g.V.Voucher.ordered c.args.voucher.now) _ _ c.walk.invariant.fewer c.walk.invariant.ordered w)))
+    let same = opens_same dirs (plan_of c.args.rules.now) c.pop.new.into c.pop.new.self (known (g.V.Voucher.records c.walk.voucher)) (known (g.V.Voucher.records c.args.voucher.now)) (answers_all (g.V.Voucher.records c.args.voucher.now) (g.V.Voucher.ordered c.args.voucher.now) (g.V.Voucher.unbroken c.walk.voucher)) (fewer_known (g.V.Voucher.records c.args.voucher.now) (g.V.Voucher.records c.walk.voucher) (honest_known _ dirs (plan_of c.args.rules.now) honest) c.walk.invariant.fewer) (mark_before (g.V.Voucher.records c.args.voucher.now) (g.V.Voucher.ordered c.args.voucher.now) _ _ c.in_err-step.ensures.leaves.was_unbroken w) keeps in
+    omega (arith, room, same, s.written.opened (mark_before (g.V.Voucher.records c.args.voucher.now) (g.V.Voucher.ordered c.args.voucher.now) _ _ c.in_err-step.ensures.leaves.was_unbroken w), c.in_err-step.ensures.opened dirs told2 (mark_now (g.V.Voucher.records c.args.voucher.now) (g.V.Voucher.records c.walk.voucher) (g.V.Voucher.ordered c.args.voucher.now) _ _ c.walk.invariant.fewer c.walk.invariant.ordered w)))
     (λ dirs told honest.
     let fits = normal_fits c.pop.new.into (c.pop.ensures.normal c.walk-test.true) in
     let pend : c.walk.progress.pending ≡ c.pop.new.into ∷ c.pop.new.self = when_true c.pop.result (c.walk.progress.pending ≡ c.pop.new.into ∷ c.pop.new.self) (c.walk.progress.pending ≡ []) c.walk-test.true c.pop.ensures.popped in

@@ -27,7 +27,7 @@ pub returns-then-prunes-clause-adds : goal.returns-then-prunes-clause-adds
 returns-then-prunes-clause-adds g c = no_children _ _
 
 pub returns-then-prunes-clause-leaves : goal.returns-then-prunes-clause-leaves
-returns-then-prunes-clause-leaves g c = leaves_same _ _ _ _
+returns-then-prunes-clause-leaves g c = record { left = leaves_same _ _ _ _; keeps_order = λ o. o; was_unbroken = λ u. u }
 
 pub returns-clause-done : goal.returns-clause-done
 returns-clause-done g c = λ dirs told there found time relied.

@@ -5,8 +5,8 @@ use Rattle.bigram_db.specs.Reader.{ReaderState, is_fresh}
 use Rattle.bigram_db.proofs.ReaderSteps.{preamble_moves, preamble_whole, preamble_lacks, preamble_ends, fresh_not_done}
 use Rattle.bigram_db.proofs.reader.ReaderBigramPathStream.begin_paths.Goals as goal
 
-pub returns-in-Ok-clause-begun : goal.returns-in-Ok-clause-begun
-returns-in-Ok-clause-begun g c =
+pub returns-in-Ok-clause-preamble : goal.returns-in-Ok-clause-preamble
+returns-in-Ok-clause-preamble g c =
     let s = c.self.inside in
     let r : ReaderState = record { feed = s.feed; table = s.table; path = s.path; shared = s.shared; stage = s.stage; place = s.place } in
     let fresh : is_fresh s.stage ≡ true = rw (← c.self.view_is) at c.requires in

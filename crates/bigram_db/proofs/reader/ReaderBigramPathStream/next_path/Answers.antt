@@ -1,6 +1,6 @@
 use Rattle.std.proofs.Common.{◌≡◌, true, refl, arith}
 use Rattle.byte_feed.specs.Feed.{IsAllAhead}
-use Rattle.byte_feed.proofs.Draws.{draws_then}
+use Rattle.byte_feed.proofs.AheadReads.{ahead_then}
 use Rattle.bigram_db.specs.declared.reader.Stage.TheVariants as stages
 use Rattle.bigram_db.specs.Reader.{ReaderState, is_live}
 use Rattle.bigram_db.proofs.ReaderSteps.{next_found, next_err, next_fault, next_end, next_large, live_not_done}
@@ -57,7 +57,14 @@ returns-in-Err-clause-err g c =
     let look = c.in-Ok.ensures in
     rw (← c.self.view_is, c.fault_at.ensures) (next_err r r' c.look.new.self _ _ _ c.read_entry.new.path c.in-Err.cause live at look.took (omega (arith, look.held, c.if-count-eq0.false)) look.bound c.in-Err.ensures.entry)
 
-pub returns-in-Ok-read_entry-clause-drawn : goal.returns-in-Ok-read_entry-clause-drawn
-returns-in-Ok-read_entry-clause-drawn g c =
-    let drawn = draws_then _ _ _ _ _ _ _ _ _ c.in-Ok.ensures.drawn c.in-Ok-read_entry.ensures.drawn in
-    rw (← c.self.view_is) drawn
+pub returns-in-Ok-read_entry-clause-ahead : goal.returns-in-Ok-read_entry-clause-ahead
+returns-in-Ok-read_entry-clause-ahead g c =
+    let e = c.in-Ok-read_entry.ensures in
+    let ahead = ahead_then _ _ _ _ _ _ _ _ _ c.in-Ok.ensures.drawn e.drawn e.held e.reach in
+    rw (← c.self.view_is) ahead
+
+pub returns-in-Err-clause-ahead : goal.returns-in-Err-clause-ahead
+returns-in-Err-clause-ahead g c =
+    let e = c.in-Err.ensures in
+    let ahead = ahead_then _ _ _ _ _ _ _ _ _ c.in-Ok.ensures.drawn e.drawn e.held e.reach in
+    rw (← c.self.view_is) ahead

@@ -4,8 +4,8 @@ use Rattle.locate02_db.specs.Reader.{ReaderState, is_done, is_fresh}
 use Rattle.locate02_db.proofs.ReaderSteps.{fresh_stage, preamble_whole, preamble_moves, preamble_lacks, preamble_ends}
 use Rattle.locate02_db.proofs.reader.Reader02PathStream.begin_paths.Goals as goal
 
-pub returns-in-Ok-clause-begun : goal.returns-in-Ok-clause-begun
-returns-in-Ok-clause-begun g c =
+pub returns-in-Ok-clause-preamble : goal.returns-in-Ok-clause-preamble
+returns-in-Ok-clause-preamble g c =
     let s = c.self.inside in
     let r : ReaderState = record { feed = s.feed; path = s.path; shared = s.shared; stage = s.stage; place = s.place } in
     let stage : s.stage ≡ stages.Fresh = fresh_stage s.stage (rw (← c.self.view_is) at c.requires) in

@@ -1,4 +1,5 @@
 use Rattle.std.proofs.Common.{◌≡◌, refl, ap, arith}
+use Rattle.byte_feed.proofs.AheadReads.{ahead_then}
 use Rattle.locate02_db.specs.declared.reader.Stage.TheVariants as stages
 use Rattle.locate02_db.specs.Reader.{ReaderState, is_done, is_live}
 use Rattle.locate02_db.proofs.ReaderSteps.{live_stage, entry_found, entry_broken, ended_whole, ended_large, ended_fault, replaced_path}
@@ -51,11 +52,15 @@ returns-in-Ok-clause-path g c _ =
     let took = rw c.in-Ok-Some.field-0-is at c.in-Ok-Some.ensures.took in
     rw (← c.self.view_is) (entry_found r r' c.next.new.self _ _ _ c.in-Ok-Some.first c.in-Ok.prefix stage at refl refl c.offset-self-inside.ensures.value c.in-Ok.ensures.path took c.in-Ok.ensures.entry)
 
-pub returns-in-Ok-clause-text : goal.returns-in-Ok-clause-text
-returns-in-Ok-clause-text g c _ =
+pub returns-in-Ok-clause-found : goal.returns-in-Ok-clause-found
+returns-in-Ok-clause-found g c _ =
     let s = c.self.inside in
     let stage : s.stage ≡ stages.Live = live_stage s.stage (rw (← c.self.view_is) at c.requires) in
-    replaced_path s.shared s.path c.in-Ok.prefix c.read_entry.new.path (c.self.invariant.3 (ap is_live stage)) c.in-Ok.ensures.path
+    record {
+      text = replaced_path s.shared s.path c.in-Ok.prefix c.read_entry.new.path (c.self.invariant.3 (ap is_live stage)) c.in-Ok.ensures.path;
+      dir = omega arith;
+      at = (refl, refl);
+    }
 
 pub returns-in-Err-clause-err : goal.returns-in-Err-clause-err
 returns-in-Err-clause-err g c =
@@ -65,3 +70,15 @@ returns-in-Err-clause-err g c =
     let at = c.self.invariant.2 (ap is_done stage) in
     let took = rw c.in-Ok-Some.field-0-is at c.in-Ok-Some.ensures.took in
     rw (← c.self.view_is, c.fault_at.ensures) (entry_broken r c.read_entry.new.path c.next.new.self _ _ _ _ c.in-Ok-Some.first c.in-Err.cause stage at took c.in-Err.ensures.entry)
+
+pub returns-in-Ok-clause-ahead : goal.returns-in-Ok-clause-ahead
+returns-in-Ok-clause-ahead g c =
+    let e = c.in-Ok.ensures in
+    let ahead = ahead_then _ _ _ _ _ _ _ _ _ c.in-Ok-Some.ensures.drawn e.drawn e.held e.reach in
+    rw (← c.self.view_is) ahead
+
+pub returns-in-Err-clause-ahead : goal.returns-in-Err-clause-ahead
+returns-in-Err-clause-ahead g c =
+    let e = c.in-Err.ensures in
+    let ahead = ahead_then _ _ _ _ _ _ _ _ _ c.in-Ok-Some.ensures.drawn e.drawn e.held e.reach in
+    rw (← c.self.view_is) ahead

@@ -3,7 +3,7 @@ use Rattle.byte_feed.specs.Feed.{IsAllAhead}
 use Rattle.mlocate_db.specs.declared.db_reader.Stage.TheVariants as stages
 use Rattle.mlocate_db.specs.Reader.{ReaderState, is_done}
 use Rattle.byte_feed.proofs.Streams.{stream_after}
-use Rattle.mlocate_db.proofs.AheadReads.{ahead_then}
+use Rattle.byte_feed.proofs.AheadReads.{ahead_then}
 use Rattle.mlocate_db.proofs.ReaderSteps.{between_head, between_end, between_large, between_err, not_end, head_wanting}
 use Rattle.mlocate_db.proofs.db_reader.DbReader.step_between.Goals as goal
 

@@ -1,5 +1,6 @@
 use Rattle.std.proofs.Common.{refl, ◌∙◌, arith}
 use Rattle.byte_feed.proofs.Draws.{draws_then}
+use Rattle.byte_feed.proofs.AheadReads.{ahead_then}
 use Rattle.byte_feed.proofs.Rests.{moved_then}
 use Rattle.mlocate_db.proofs.PathSteps.{head_paths, end_paths, entry_paths}
 use Rattle.mlocate_db.proofs.db_reader.DbReaderPathStream.next_path.Goals as goal
@@ -9,8 +10,20 @@ returns-in-Ok-Entry-clause-path g c _ =
     let e = c.in-Ok-Entry.ensures in
     moved_then _ _ _ _ _ _ _ _ _ _ _ c.steps.invariant.moved (entry_paths _ _ _ _ c.in-Ok-Entry.field-0-0 e.stepped.version (rw c.in-Ok-Entry.field-0-is at e.shows) (rw c.in-Ok-Entry.field-0-is at e.step))
 
-pub returns-in-Ok-Entry-clause-drawn : goal.returns-in-Ok-Entry-clause-drawn
-returns-in-Ok-Entry-clause-drawn g c = draws_then _ _ _ _ _ _ _ _ _ c.steps.invariant.drawn c.in-Ok-Entry.ensures.ahead.drawn
+pub returns-in-Ok-Entry-clause-ahead : goal.returns-in-Ok-Entry-clause-ahead
+returns-in-Ok-Entry-clause-ahead g c =
+    let e = c.in-Ok-Entry.ensures.ahead in
+    ahead_then _ _ _ _ _ _ _ _ _ c.steps.invariant.drawn e.drawn e.held e.bound
+
+pub returns-in-Ok-End-clause-ahead : goal.returns-in-Ok-End-clause-ahead
+returns-in-Ok-End-clause-ahead g c =
+    let e = c.in-Ok-End.ensures.ahead in
+    ahead_then _ _ _ _ _ _ _ _ _ c.steps.invariant.drawn e.drawn e.held e.bound
+
+pub returns-in-Err-clause-ahead : goal.returns-in-Err-clause-ahead
+returns-in-Err-clause-ahead g c =
+    let e = c.in-Err.ensures.ahead in
+    ahead_then _ _ _ _ _ _ _ _ _ c.steps.invariant.drawn e.drawn e.held e.bound
 
 pub steps-preserved-in-Ok-Directory : goal.steps-preserved-in-Ok-Directory
 steps-preserved-in-Ok-Directory g c =

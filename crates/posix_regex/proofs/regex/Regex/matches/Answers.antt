@@ -1,12 +1,22 @@
-use Rattle.std.proofs.Common.{◌≡◌, sym, subst, ◌∙◌}
+use Rattle.std.proofs.Common.{◌≡◌, refl, ap, sym, subst, ◌∙◌}
+use Rattle.std.proofs.lemmas.Bool.{false≢true}
+use Rattle.posix_regex.specs.Literal.{Compiled}
 use Rattle.posix_regex.specs.Moves.{ReachesEnd}
 use Rattle.posix_regex.specs.Program.{items_of}
 use Rattle.posix_regex.proofs.Found.{end_found, found_end}
 use Rattle.posix_regex.proofs.regex.Regex.matches.Goals as goal
 
+pub returns-then-lacks-clause-value : goal.returns-then-lacks-clause-value
+returns-then-lacks-clause-value g c = λ e is.
+    let same : c.self.inside.states ≡ items_of e = ap (λ (m : Compiled). m.items) c.self.view_is ∙ is in (
+      λ t. absurd (false≢true t),
+      λ f. absurd (c.if-lacks.ensures.0 refl
+          (c.self.invariant.2 c.args.text.now (subst (λ items. ReachesEnd items c.args.text.now) (sym same) (found_end e c.args.text.now f)))),
+    )
+
 pub returns-clause-value : goal.returns-clause-value
 returns-clause-value g c = λ e is.
-    let same : c.self.inside.states ≡ items_of e = c.self.view_is ∙ is in
+    let same : c.self.inside.states ≡ items_of e = ap (λ (m : Compiled). m.items) c.self.view_is ∙ is in
     let v = c.search.ensures.value in (
       λ t. end_found e c.args.text.now (subst (λ items. ReachesEnd items c.args.text.now) same (v.0 t)),
       λ f. v.1 (subst (λ items. ReachesEnd items c.args.text.now) (sym same) (found_end e c.args.text.now f)),

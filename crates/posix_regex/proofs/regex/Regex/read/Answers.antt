@@ -13,8 +13,8 @@ returns-then-whole-gt-MAX_SIZE-clause-value c =
 
 pub returns-in-Ok-with_sets-clause-value : goal.returns-in-Ok-with_sets-clause-value
 returns-in-Ok-with_sets-clause-value c =
-    rw c.in-Ok-with_sets.ensures (expression_at-some c.args.extended c.args.fold c.args.pattern.now c.in-Ok.whole.size c.in-Ok.whole.states (omega arith) c.in-Ok.ensures)
+    rw c.in-Ok-with_sets.ensures.items (expression_at-some c.args.extended c.args.fold c.args.pattern.now c.in-Ok.whole.size c.in-Ok.whole.states (omega arith) c.in-Ok.ensures)
 
 pub returns-in-Ok-with_sets-clause-bound : goal.returns-in-Ok-with_sets-clause-bound
 returns-in-Ok-with_sets-clause-bound c =
-    rw c.in-Ok-with_sets.ensures (few_items (expression_at c.args.extended c.args.fold c.args.pattern.now) c.in-Ok.whole.states (expression_at-some c.args.extended c.args.fold c.args.pattern.now c.in-Ok.whole.size c.in-Ok.whole.states (omega arith) c.in-Ok.ensures))
+    rw c.in-Ok-with_sets.ensures.items (few_items (expression_at c.args.extended c.args.fold c.args.pattern.now) c.in-Ok.whole.states (expression_at-some c.args.extended c.args.fold c.args.pattern.now c.in-Ok.whole.size c.in-Ok.whole.states (omega arith) c.in-Ok.ensures))

@@ -10,8 +10,8 @@ use Rattle.locate_engine.specs.declared.outcome.Outcome.{Outcome}
 use Rattle.locate_engine.specs.declared.outcome.Outcome.TheVariants as outcomes
 use Rattle.locate_tools.specs.Standing.{Standing, Goes, IsComplete}
 use Rattle.locate_tools.specs.Counted.{CountsAll}
-use Rattle.locate_tools.specs.Located.{World, Locates, may_ask_gate, query_of, databases_of, cause_of}
-use Rattle.locate_tools.specs.Tried.{Known, NoneFailed, Tried}
+use Rattle.locate_tools.specs.LocateExact.{World, Locates, may_ask_gate, query_of, databases_of, cause_of, work_of}
+use Rattle.locate_tools.specs.Tried.{NoneFailed, Tried}
 use Rattle.locate_tools.specs.declared.answer.Cause.{Cause}
 use Rattle.locate_tools.specs.declared.answer.Cause.TheVariants as causes
 
@@ -42,9 +42,9 @@ pub record Concludes (asked : LocateAsked) (outcomes : List Outcome) (matched : 
 
 -- A run of `locate`: its databases were tried one after another, each from where the one before left the run, and then it
 -- ended.
-pub record LocateRan (asked : LocateAsked) (known : Known) (s s' : Standing) (outcomes : List Outcome) (cause : Cause) : Type 0 where
+pub record LocateRan (asked : LocateAsked) (s s' : Standing) (outcomes : List Outcome) (cause : Cause) : Type 0 where
   pub after : Standing
-  pub goes : Goes (Tried asked.statistics (query_of asked) known) (databases_of asked) outcomes s after
+  pub goes : Goes (Tried (work_of asked) (query_of asked)) (databases_of asked) outcomes s after
   pub complete : IsComplete (databases_of asked) outcomes
   pub concludes : Concludes asked outcomes after.matched after.taken s'.taken after.held_back s'.held_back after.writes_failed s'.writes_failed cause
   pub given : s'.given ≡ after.given
@@ -65,12 +65,12 @@ is_gate_fault outcome = false
 -- exactly the statistics of the files were written. No more outcomes tell of a failed read, or of a failed gate, than such
 -- calls failed, up to the last count that can be told. A failed write is the cause where it is an outcome, and else only
 -- where the number of paths is written; where no write failed, nothing is held back that was not before.
-pub record LocateRun (asked : LocateAsked) (known : Known) (s s' : Standing) (outcomes : List Outcome) (cause : Cause) : Type 0 where
+pub record LocateRun (asked : LocateAsked) (s s' : Standing) (outcomes : List Outcome) (cause : Cause) : Type 0 where
   pub no_memory : cause ≡ causes.OutOfMemory → outcomes ≡ []
-  pub ran : (cause ≡ causes.OutOfMemory → ⊥) → LocateRan asked known s s' outcomes cause
-  pub exact : (cause ≡ causes.OutOfMemory → ⊥) → asked.statistics ≡ false → (world : World) → known.files ≡ Some world.files → (IsTrue (may_ask_gate asked world.files (databases_of asked)) → known.tests ≡ Some world.tests) → NoneFailed s s'
+  pub ran : (cause ≡ causes.OutOfMemory → ⊥) → LocateRan asked s s' outcomes cause
+  pub exact : (cause ≡ causes.OutOfMemory → ⊥) → asked.statistics ≡ false → (world : World) → s.files ≡ Some world.files → (IsTrue (may_ask_gate asked world.files (databases_of asked)) → s.tests ≡ Some world.tests) → NoneFailed s s'
       → Locates asked world s.taken s'.taken outcomes cause
-  pub counted : (cause ≡ causes.OutOfMemory → ⊥) → asked.statistics ≡ true → (files : Files) → known.files ≡ Some files → NoneFailed s s'
+  pub counted : (cause ≡ causes.OutOfMemory → ⊥) → asked.statistics ≡ true → (files : Files) → s.files ≡ Some files → NoneFailed s s'
       → CountsAll asked files s.taken s'.taken outcomes cause
   pub read_faults : min (s.reads_failed + length (filter is_read_fault outcomes)) last_count ≤ s'.reads_failed
   pub gate_faults : min (s.gate_failed + length (filter is_gate_fault outcomes)) last_count ≤ s'.gate_failed

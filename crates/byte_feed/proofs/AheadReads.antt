@@ -2,7 +2,7 @@
 use Rattle.std.proofs.Common.{ℕ, ◌≤◌, ◌^◌, List, length, Option}
 use Rattle.byte_feed.specs.Feed.{FeedState, Draws, reach}
 use Rattle.byte_feed.proofs.Draws.{draws_then}
-use Rattle.mlocate_db.specs.StreamItems.{ReadsAhead}
+use Rattle.byte_feed.specs.Calls.{ReadsAhead}
 
 pub ahead_then : (f f' f'' : FeedState) (g g' g'' : ℕ) (l l' l'' : Option (List ℕ)) → Draws f f' g g' l l' → Draws f' f'' g' g'' l' l''
     → length f''.held ≤ 4096 → reach f'' ≤ 2 ^ 40 → ReadsAhead f f'' g g'' l l''

@@ -1,0 +1,4 @@
+pub mod Sets
+pub mod DatabaseItems
+pub mod Directories
+mod ReadBack

@@ -1,0 +1,5 @@
+pub mod ItemLaws
+pub mod ListEndings
+pub mod Lists
+pub mod PathSteps
+pub mod ReaderSteps

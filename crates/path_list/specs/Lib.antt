@@ -1,0 +1,5 @@
+pub mod Items
+pub mod Marks
+pub mod Reader
+pub mod Spelled
+pub mod Streams
