@@ -1,8 +1,10 @@
 //! A place in an old database, which only moves on.
-ghost use Rattle.std.specs.Prelude.{◌≡◌, ◌≤◌, ◌&&◌, [], true, false, not, IsTrue, Ok, Err, OnOk, length};
+ghost use Rattle.std.specs.Prelude.{◌≡◌, ◌≤◌, ◌+◌, ◌&&◌, [], true, false, not, IsTrue, Ok, Err, OnOk, length};
 ghost use Rattle.loc_outside.specs.Causes.{Rose};
 ghost use Rattle.path_order.specs.NameList.{Listed};
 ghost use Rattle.byte_feed.specs.Endings.{is_read_fault as is_fault_of_the_source};
+ghost use Rattle.byte_feed.specs.Feed.{Draws, empty_at, reach};
+ghost use Rattle.mlocate_db.specs.Reader.{is_live};
 ghost use Rattle.tree_scan.specs.Records.{Fitting, bears, is_zero as is_zero_moment};
 ghost use Rattle.dir_reuse.specs.Coming.{head_of};
 ghost use Rattle.dir_reuse.specs.Usable.{record_of};
@@ -55,6 +57,8 @@ impl Cursor {
         ensures opened { OpensKnown root.now block.now (S.left src.old) result (S.left src.new) }
         ensures sound { IsTrue (is_sound result) }
         ensures broke { result.unbroken ≡ false → Rose (S.faults src.old) (S.faults src.new) }
+        ensures drawn { Draws (empty_at 0) result.reader.feed (S.given src.old) (S.given src.new) (S.left src.old) (S.left src.new) }
+        ensures near { is_live result.reader.stage ≡ true → reach result.reader.feed ≤ result.reader.place + 4096 }
         ensures later { S.faults src.old ≤ S.faults src.new }
         ensures kept { S.kept src.old src.new }
     {

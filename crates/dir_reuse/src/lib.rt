@@ -5,5 +5,7 @@ mod cursor;
 mod naming;
 mod seeking;
 mod stream_voucher;
+#[cfg(test)]
+mod tests;
 
 pub use stream_voucher::StreamVoucher;

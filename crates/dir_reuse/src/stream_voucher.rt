@@ -1,8 +1,10 @@
 //! A voucher that reads an old database once, forward only.
-ghost use Rattle.std.specs.Prelude.{◌≡◌, ◌≤◌, ⊤, IsTrue, false, refl};
+ghost use Rattle.std.specs.Prelude.{◌≡◌, ◌≤◌, ◌+◌, ⊤, IsTrue, true, false, refl};
 ghost use Rattle.std.proofs.Common.{◌∙◌};
 ghost use Rattle.loc_outside.specs.Causes.{Rose};
 ghost use Rattle.dir_reuse.specs.Answering.{is_sound};
+ghost use Rattle.byte_feed.specs.Feed.{Draws, empty_at, reach};
+ghost use Rattle.mlocate_db.specs.Reader.{is_live};
 ghost use Rattle.tree_scan.specs.Plans.{plan_of};
 ghost use Rattle.dir_reuse.specs.Stream.{OpensKnown, known, is_known_ordered};
 ghost use Rattle.dir_reuse.specs.Faults.{rose_first, rose_last, at_most_trans, at_most_itself};
@@ -15,6 +17,7 @@ use tree_scan::{Rules, Voucher};
 
 /// The records of an old database, read forward only while directories are asked for in path order. It borrows the
 /// source, holds one path and one buffer, and takes no memory of its own.
+#[derive(Drop)]
 pub struct StreamVoucher<'a, S> {
     src: &'a mut S,
     cursor: Cursor,
@@ -29,6 +32,8 @@ impl<'a, S: Source> StreamVoucher<'a, S> {
         ensures opened { OpensKnown (plan_of rules.now).root block.now (S.left src.old) result.cursor (S.left result.src.now) }
         ensures sound { IsTrue (is_sound result.cursor) }
         ensures broke { result.cursor.unbroken ≡ false → Rose (S.faults src.old) (S.faults result.src.now) }
+        ensures drawn { Draws (empty_at 0) result.cursor.reader.feed (S.given src.old) (S.given result.src.now) (S.left src.old) (S.left result.src.now) }
+        ensures near { is_live result.cursor.reader.stage ≡ true → reach result.cursor.reader.feed ≤ result.cursor.reader.place + 4096 }
         ensures later { S.faults src.old ≤ S.faults result.src.now }
         ensures kept { S.kept src.old result.src.now }
     {
