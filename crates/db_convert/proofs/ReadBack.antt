@@ -1,13 +1,13 @@
 -- What is written in each format is read back.
 use Rattle.std.proofs.Common.{◌≡◌, ℕ, suc, ◌<◌, Bool, true, false, cond, not, All, List, [], ◌∷◌, length, get_or, Some, None, refl, subst, inl, arith}
-use Rattle.std.specs.Option.{option_map}
-use Rattle.std.specs.List.{list_any, position_or_len}
+use Rattle.std.specs.Option.{option_map, IfSome}
+use Rattle.std.specs.List.{flat_map, list_any, position_or_len}
 use Rattle.std.proofs.lemmas.Bool.{ltb-false, eq-eqb, and_parts}
 use Rattle.std.proofs.lemmas.List.Folds.{list_any_at}
 use Rattle.std.proofs.lemmas.List.Sums.{fails_before_first}
 use Rattle.path_order.specs.Path.{is_normal, is_root}
 use Rattle.path_order.proofs.ParentLemmas.{has_parent}
-use Rattle.byte_feed.specs.Front.{limit}
+use Rattle.byte_feed.specs.Front.{limit, spelling}
 use Rattle.byte_feed.specs.Paths.{contents, GivesWhole, IsPath}
 use Rattle.mlocate_db.specs.Items.{mlocate}
 use Rattle.locate02_db.specs.Spelled.{encode02}
@@ -17,6 +17,8 @@ use Rattle.bigram_db.specs.Chosen.{times, counted, table_for, encode_bigram}
 use Rattle.bigram_db.proofs.PathPieces as pieces
 use Rattle.bigram_db.proofs.TableLaws.{chosen_table}
 use Rattle.bigram_db.proofs.Written as written
+use Rattle.any_db.specs.Formats.{format_of}
+use Rattle.any_db.proofs.Formats.{mlocate_format, locate02_format, bigram_format}
 use Rattle.path_list.specs.Items.{IsListed, is_mark}
 use Rattle.path_list.specs.Spelled.{encode_list}
 use Rattle.path_list.proofs.Lists as lists
@@ -24,11 +26,11 @@ use Rattle.db_convert.specs.declared.format.Format.{Format}
 use Rattle.db_convert.specs.declared.format.Format.TheVariants as formats
 use Rattle.db_convert.specs.declared.format.AdmitCause.{AdmitCause}
 use Rattle.db_convert.specs.Admission.{is_admitted, admits}
-use Rattle.db_convert.specs.Blocks.{encode_mlocate}
+use Rattle.db_convert.specs.Blocks.{header, block_items, parents, encode_mlocate}
 use Rattle.db_convert.proofs.Sets.{Each}
 use Rattle.db_convert.proofs.DatabaseItems.{Good, parts_of, database_back}
 use Rattle.db_convert.proofs.Directories.{by_directory_is}
-use Rattle.db_convert.specs.Conversion.{items_in, encode, as_read}
+use Rattle.db_convert.specs.Conversion.{items_in, encode, as_read, database_of}
 
 -- ---- admission
 
@@ -101,3 +103,12 @@ all_back formats.Locate02 paths all e below = locate02_back paths all below
 all_back formats.Bigram paths all e below = bigram_back paths all below
 all_back formats.List paths all e below = list_back paths all e below
 all_back formats.List0 paths all e below = list0_back paths all below
+
+-- ---- as which format it is told
+
+pub all_told : (to : Format) (paths : List (List ℕ)) → IfSome (database_of to) (λ format. format_of (encode to paths) ≡ Some format)
+all_told formats.Mlocate paths = mlocate_format header (spelling mlocate (flat_map (block_items paths) (parents paths)))
+all_told formats.Locate02 paths = locate02_format paths
+all_told formats.Bigram paths = bigram_format paths
+all_told formats.List paths = tt
+all_told formats.List0 paths = tt

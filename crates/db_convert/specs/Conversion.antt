@@ -1,6 +1,7 @@
 -- What is written for a list of paths in each format, and what is read back.
-use Rattle.std.specs.Prelude.{ℕ, List}
+use Rattle.std.specs.Prelude.{◌≡◌, ℕ, ◌<◌, List, length, Option, Some, None, All}
 use Rattle.byte_feed.specs.Front as feed
+use Rattle.byte_feed.specs.Paths.{IsPath}
 use Rattle.mlocate_db.specs.Items.{mlocate}
 use Rattle.locate02_db.specs.Items.{locate02}
 use Rattle.locate02_db.specs.Spelled.{encode02}
@@ -8,8 +9,11 @@ use Rattle.bigram_db.specs.Items.{bigram}
 use Rattle.bigram_db.specs.Chosen.{encode_bigram}
 use Rattle.path_list.specs.Marks.{list, list0}
 use Rattle.path_list.specs.Spelled.{encode_list}
+use Rattle.any_db.specs.declared.format.DatabaseFormat.{DatabaseFormat}
+use Rattle.any_db.specs.declared.format.DatabaseFormat.TheVariants as databases
 use Rattle.db_convert.specs.declared.format.Format.{Format}
 use Rattle.db_convert.specs.declared.format.Format.TheVariants as formats
+use Rattle.db_convert.specs.Admission.{admits}
 use Rattle.db_convert.specs.Blocks.{encode_mlocate, by_directory}
 
 -- what the items of a format are
@@ -33,3 +37,16 @@ encode formats.List0 paths = encode_list 0 paths
 abbrev pub as_read : Format → List (List ℕ) → List (List ℕ)
 as_read formats.Mlocate paths = by_directory paths
 as_read to paths = paths
+
+-- These paths can be written: each is one that a reader gives, all are admitted, and the text is below the limit.
+pub record CanWrite (to : Format) (paths : List (List ℕ)) : Type 0 where
+  pub readable : All IsPath paths
+  pub admitted : admits to paths ≡ None
+  pub below : length (encode to paths) < feed.limit
+
+-- the databases among the formats, which are told from their bytes
+abbrev pub database_of : Format → Option DatabaseFormat
+database_of formats.Mlocate = Some databases.Mlocate
+database_of formats.Locate02 = Some databases.Locate02
+database_of formats.Bigram = Some databases.Bigram
+database_of to = None

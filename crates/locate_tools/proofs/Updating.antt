@@ -18,14 +18,15 @@ use Rattle.locate_tools.specs.UpdatedbRun.{UpdatedbRun, same_in}
 
 -- ---- what is just as it was, in other words
 
-follows_as : {H S S' L : Type 0} → (S → S') → H × S ⊎ L → H × S' ⊎ L
-follows_as same (inl (held, kept)) = inl (held, same kept)
-follows_as same (inr lines) = inr lines
+wrote_as : {H S S' L : Type 0} → (S → S') → H × S ⊎ L → H × S' ⊎ L
+wrote_as same (inl (held, kept)) = inl (held, same kept)
+wrote_as same (inr lines) = inr lines
 
 left_as : (fault : UpdateFault) (name : List ℕ) (now : Moment) (dirs : Dirs) (plan : Plan) (h h' : Option Held) (e e' : Option (List ℕ)) (S S' : Type 0) → (S → S') → Left fault name now dirs plan h h' e e' S → Left fault name now dirs plan h h' e e' S'
 left_as fault name now dirs plan h h' e e' S S' same left = record {
   leaves = left.leaves;
-  follows = follows_as same left.follows;
+  echo_part = left.echo_part;
+  wrote = wrote_as same left.wrote;
   unwritten = λ was none. let kept = left.unwritten was none in (kept.0, same kept.1);
   stopped = left.stopped;
 }
@@ -99,7 +100,7 @@ does_none asked now a = record {
     given = omega arith;
     given_most = λ files fs. omega arith;
     conf_alone = λ files fault fs refused. omega arith;
-    asked_of = λ files dirs plan fs ds made. record { opened = omega arith; stats = omega arith };
+    asked_of = λ files dirs plan fs ds made. record { opened = omega arith; unvouched_alone = λ all. omega arith; stats = omega arith };
     openings = omega arith;
     reads_later = omega arith;
   };

@@ -5,6 +5,8 @@ mod laws;
 mod mark;
 mod reader;
 mod stream;
+#[cfg(test)]
+mod tests;
 mod writer;
 
 pub use laws::{ending_is_first_fault, front_is_longest, paths_are_spelled, written_is_read_back};

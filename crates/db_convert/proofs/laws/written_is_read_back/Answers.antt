@@ -1,5 +1,8 @@
-use Rattle.db_convert.proofs.ReadBack.{all_back}
+use Rattle.db_convert.proofs.ReadBack.{all_back, all_told}
 use Rattle.db_convert.proofs.laws.written_is_read_back.Goals as goal
 
-pub returns : goal.returns
-returns c = λ to paths all e below. all_back to paths all e below
+pub returns-clause-given : goal.returns-clause-given
+returns-clause-given c = λ to paths h. all_back to paths h.readable h.admitted h.below
+
+pub returns-clause-told : goal.returns-clause-told
+returns-clause-told c = λ to paths. all_told to paths
