@@ -16,7 +16,7 @@ use Rattle.path_order.specs.Stamp.{Moment}
 use Rattle.path_order.proofs.OrderLemmas.{path_total}
 use Rattle.byte_feed.specs.Front.{Window}
 use Rattle.mlocate_db.specs.Items.{Head, Item, HeadItem, EntryItem, EndItem, HeaderItem}
-use Rattle.mlocate_db.specs.Reader.{ReaderState, is_live, rest_left}
+use Rattle.mlocate_db.specs.Reader.{ReaderState, is_live, items_left}
 use Rattle.tree_scan.specs.Records.{Record, Vouches, LeavesOf, bears, is_moment, is_zero, is_vouched}
 use Rattle.dir_reuse.specs.Usable.{record_of, record_at, is_closed, are_usable, names_first, heads_in, paths_rise, is_none}
 use Rattle.dir_reuse.specs.Coming.{size, size_behind, Placed, placed_at, placed_in, Coming, coming_in, nothing, head_of, coming, coming_at, not_before, records_to_come, Skips}
@@ -150,8 +150,8 @@ later_none dir time device version place (EndItem ∷ items) h = later_none dir 
 coming_none : (dir : List ℕ) (time : Moment) (device : ℕ) (r : ReaderState) (w : Window) → all_after dir (coming r w).heads ≡ true → is_vouched (records_to_come (coming r w)) dir time device ≡ false
 coming_none dir time device r w = by (is_live r.stage)
   where
-    by : (b : Bool) → all_after dir (if b then coming_in r.version r.place (rest_left r w).items else nothing).heads ≡ true → is_vouched (records_to_come (if b then coming_in r.version r.place (rest_left r w).items else nothing)) dir time device ≡ false
-    by true h = later_none dir time device r.version r.place (rest_left r w).items h
+    by : (b : Bool) → all_after dir (if b then coming_in r.version r.place (items_left r w).items else nothing).heads ≡ true → is_vouched (records_to_come (if b then coming_in r.version r.place (items_left r w).items else nothing)) dir time device ≡ false
+    by true h = later_none dir time device r.version r.place (items_left r w).items h
     by false h = refl
 
 all_later : (dir path : List ℕ) (qs : List (List ℕ)) → path_cmp dir path ≡ Less → all_after path qs ≡ true → all_after dir qs ≡ true
@@ -230,7 +230,7 @@ greater_less a b e = path_total.antisymm b a ∙ ap (λ (o : Ordering). ordering
 pub answers_later : (dir : List ℕ) (time : Moment) (device : ℕ) (a : Coming) (r : ReaderState) (w : Window) (unbroken : Bool) → Skips dir a (coming_at r w) → path_cmp r.path dir ≡ Greater → AnswersOf dir time device a (coming_at r w) unbroken (Ok false) []
 answers_later dir time device a r w unbroken s greater =
     let less = greater_less r.path dir greater in
-    let items : List Item = (rest_left r w).items in
+    let items : List Item = (items_left r w).items in
     record {
       vouches = refl;
       none = λ is o u. none_by dir time device a (coming_at r w) s (λ up.
@@ -244,7 +244,7 @@ answers_later dir time device a r w unbroken s greater =
 pub answers_other : (dir : List ℕ) (time : Moment) (device : ℕ) (a : Coming) (r : ReaderState) (w : Window) (unbroken : Bool) → Skips dir a (coming_at r w) → r.path ≡ dir
     → ((names : Listed) → bears (record_of r.version (head_of r) names) time device ≡ false) → AnswersOf dir time device a (coming_at r w) unbroken (Ok false) []
 answers_other dir time device a r w unbroken s is other =
-    let items : List Item = (rest_left r w).items in
+    let items : List Item = (items_left r w).items in
     record {
       vouches = refl;
       none = λ e o u. none_by dir time device a (coming_at r w) s (λ up.
@@ -313,10 +313,10 @@ answers_no dir time device a r w unbroken s =
     }
 
 own_paths : (r : ReaderState) (w : Window) → OwnPaths r.path (own r w)
-own_paths r w x h = by (is_closed (rest_left r w).items && are_usable (names_first (rest_left r w).items)) h
+own_paths r w x h = by (is_closed (items_left r w).items && are_usable (names_first (items_left r w).items)) h
   where
-    by : (b : Bool) → Contains (recs (map (λ (q : Record). let t : Placed = (q, r.place + size_behind (rest_left r w).items) in t) (if b then record_of r.version (head_of r) (names_first (rest_left r w).items) ∷ [] else []))) x → x.path ≡ r.path
-    by true k = one_path (record_of r.version (head_of r) (names_first (rest_left r w).items)) 0 x k
+    by : (b : Bool) → Contains (recs (map (λ (q : Record). let t : Placed = (q, r.place + size_behind (items_left r w).items) in t) (if b then record_of r.version (head_of r) (names_first (items_left r w).items) ∷ [] else []))) x → x.path ≡ r.path
+    by true k = one_path (record_of r.version (head_of r) (names_first (items_left r w).items)) 0 x k
     by false k = absurd (in_none x k)
 
 -- no memory was left

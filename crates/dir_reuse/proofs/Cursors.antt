@@ -10,7 +10,7 @@ use Rattle.byte_feed.specs.Front.{Window}
 use Rattle.byte_feed.specs.Feed.{window, so_far}
 use Rattle.mlocate_db.specs.declared.db_reader.Stage.{Stage}
 use Rattle.mlocate_db.specs.declared.db_reader.Stage.TheVariants as stages
-use Rattle.mlocate_db.specs.Reader.{ReaderState, is_live, is_inside, rest_left}
+use Rattle.mlocate_db.specs.Reader.{ReaderState, is_live, is_inside, items_left}
 use Rattle.tree_scan.specs.Records.{bears, is_zero}
 use Rattle.dir_reuse.specs.declared.cursor.Cursor.{Cursor}
 use Rattle.dir_reuse.specs.declared.naming.Names.{Names}
@@ -131,7 +131,7 @@ told_broken dir time device t c c' (Some a) (Some b) m h u =
 
 apart_by : (r : ReaderState) (w : Window) (b : Bool) → is_live r.stage ≡ b → (if b then coming r w else nothing) ≡ coming r w
 apart_by r w true e = refl
-apart_by r w false e = sym (ap (λ (x : Bool). if x then coming_in r.version r.place (rest_left r w).items else nothing) e)
+apart_by r w false e = sym (ap (λ (x : Bool). if x then coming_in r.version r.place (items_left r w).items else nothing) e)
 
 pub ahead_apart : (c : Cursor) (w : Window) → c.matched ≡ true → c.at_head ≡ false → ahead c w ≡ coming c.reader w
 ahead_apart c w m h =

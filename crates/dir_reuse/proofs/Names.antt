@@ -25,7 +25,7 @@ use Rattle.byte_feed.proofs.Rests.{moved_then, moved_same, ends_after}
 use Rattle.mlocate_db.specs.Items.{Head, Item, HeadItem, EntryItem, EndItem, spell, mlocate}
 use Rattle.mlocate_db.specs.Items.{in_directory}
 use Rattle.mlocate_db.proofs.ItemSteps.{joined_is}
-use Rattle.mlocate_db.specs.Reader.{ReaderState, is_live, rest_left}
+use Rattle.mlocate_db.specs.Reader.{ReaderState, is_live, items_left}
 use Rattle.path_order.specs.Path.{joined}
 use Rattle.tree_scan.specs.Admitted.{fits_in}
 use Rattle.tree_scan.specs.Records.{Record}
@@ -79,11 +79,11 @@ added [] ys = omega arith
 added (x ∷ xs) ys = omega (arith, added xs ys)
 
 -- the place moves by their sizes
-pub places_move : (r r' : ReaderState) (w w' : Window) (is : List Item) → rest_left r w ≡ after_items is (rest_left r' w') → r.place + sizes is ≡ r'.place
+pub places_move : (r r' : ReaderState) (w w' : Window) (is : List Item) → items_left r w ≡ after_items is (items_left r' w') → r.place + sizes is ≡ r'.place
 unfolding rest_of
 places_move r r' w w' is e =
-    let items : List Item = (rest_left r w).items in
-    let items' : List Item = (rest_left r' w').items in
+    let items : List Item = (items_left r w).items in
+    let items' : List Item = (items_left r' w').items in
     let same : items ≡ is ++ items' = ap (λ (x : Rest mlocate). x.items) e in
     let ends : r.place + length (spelling mlocate items) ≡ r'.place + length (spelling mlocate items') = ap (λ (x : Rest mlocate). x.place) e in
     let more : length (spelling mlocate items) ≡ sizes is + sizes items' = ap (λ (l : List Item). length (spelling mlocate l)) same ∙ spelled (is ++ items') ∙ added is items' in
@@ -92,22 +92,22 @@ places_move r r' w w' is e =
 -- ---- a directory that is passed
 
 -- what is to come behind the names of a directory
-pub behind_names : (r r' : ReaderState) (w w' : Window) (xs : Listed) → is_live r'.stage ≡ true → r'.version ≡ r.version → rest_left r w ≡ after_items (entries_of xs) (rest_left r' w') → coming_at r w ≡ with_own (own r w) r.path (coming r' w')
+pub behind_names : (r r' : ReaderState) (w w' : Window) (xs : Listed) → is_live r'.stage ≡ true → r'.version ≡ r.version → items_left r w ≡ after_items (entries_of xs) (items_left r' w') → coming_at r w ≡ with_own (own r w) r.path (coming r' w')
 behind_names r r' w w' xs live version e =
-    let is : List Item = (rest_left r' w').items in
-    let same : (rest_left r w).items ≡ entries_of xs ++ is = ap (λ (x : Rest mlocate). x.items) e in
-    let blocks : placed_in r.version r.place (rest_left r w).items ≡ placed_in r'.version r'.place is =
+    let is : List Item = (items_left r' w').items in
+    let same : (items_left r w).items ≡ entries_of xs ++ is = ap (λ (x : Rest mlocate). x.items) e in
+    let blocks : placed_in r.version r.place (items_left r w).items ≡ placed_in r'.version r'.place is =
     ap (placed_in r.version r.place) same ∙ placed_behind r.version r.place xs is ∙ ap (λ (p : ℕ). placed_in r.version p is) (places_move r r' w w' (entries_of xs) e) ∙ ap (λ (v : ℕ). placed_in v r'.place is) (sym version) in
-    let heads : heads_in (rest_left r w).items ≡ heads_in is = ap heads_in same ∙ heads_behind xs is in
+    let heads : heads_in (items_left r w).items ≡ heads_in is = ap heads_in same ∙ heads_behind xs is in
     (λ i. let c : Coming = record { blocks = own r w ++ blocks i; heads = r.path ∷ heads i } in c) ∙ ap (with_own (own r w) r.path) (sym (live_is r' w' live))
 
 own_by : (version : ℕ) (head : Head) (at : ℕ) (names : Listed) (b : Bool) → b ≡ false → map (λ (r : Record). let q : Placed = (r, at) in q) (if b then record_of version head names ∷ [] else []) ≡ []
 own_by version head at names b e = ap (λ (c : Bool). map (λ (r : Record). let q : Placed = (r, at) in q) (if c then record_of version head names ∷ [] else [])) e
 
-own_none : (r : ReaderState) (w : Window) → (is_closed (rest_left r w).items && are_usable (names_first (rest_left r w).items)) ≡ false → own r w ≡ []
-own_none r w e = own_by r.version (head_of r) (r.place + size_behind (rest_left r w).items) (names_first (rest_left r w).items) _ e
+own_none : (r : ReaderState) (w : Window) → (is_closed (items_left r w).items && are_usable (names_first (items_left r w).items)) ≡ false → own r w ≡ []
+own_none r w e = own_by r.version (head_of r) (r.place + size_behind (items_left r w).items) (names_first (items_left r w).items) _ e
 
-own_some : (r : ReaderState) (w : Window) (xs : Listed) (is : List Item) (at : ℕ) → (rest_left r w).items ≡ entries_of xs ++ EndItem ∷ is → are_usable xs ≡ true → r.place + (sizes (entries_of xs) + size EndItem) ≡ at
+own_some : (r : ReaderState) (w : Window) (xs : Listed) (is : List Item) (at : ℕ) → (items_left r w).items ≡ entries_of xs ++ EndItem ∷ is → are_usable xs ≡ true → r.place + (sizes (entries_of xs) + size EndItem) ≡ at
     → own r w ≡ (record_of r.version (head_of r) xs, at) ∷ []
 own_some r w xs is at same usable ends = ap (placed_at r.version r.place (head_of r)) same ∙ by _ _ _ (closed_behind xs (EndItem ∷ is)) (first_names xs (EndItem ∷ is) ∙ nil xs) (ap (λ (n : ℕ). r.place + n) (size_to_end xs is) ∙ ends)
   where
@@ -244,15 +244,15 @@ entries_push : (xs : Listed) (e : List ℕ × Kind) (is : List Item) → entries
 entries_push [] e is = refl
 entries_push (x ∷ xs) e is = ap (λ (l : List Item). EntryItem x.1 x.0 ∷ l) (entries_push xs e is)
 
-pub one_more : (r0 r r' : ReaderState) (xs : Listed) (kind : Kind) (name : List ℕ) (f f' f'' : FeedState) (l l' l'' : Option (List ℕ)) → MovedKnown (rest_left r0) (rest_left r) (after_items (entries_of xs)) f l f' l'
-    → MovedKnown (rest_left r) (rest_left r') (after_item mlocate (EntryItem kind name)) f' l' f'' l'' → MovedKnown (rest_left r0) (rest_left r') (after_items (entries_of (xs ++ (name, kind) ∷ []))) f l f'' l''
+pub one_more : (r0 r r' : ReaderState) (xs : Listed) (kind : Kind) (name : List ℕ) (f f' f'' : FeedState) (l l' l'' : Option (List ℕ)) → MovedKnown (items_left r0) (items_left r) (after_items (entries_of xs)) f l f' l'
+    → MovedKnown (items_left r) (items_left r') (after_item mlocate (EntryItem kind name)) f' l' f'' l'' → MovedKnown (items_left r0) (items_left r') (after_items (entries_of (xs ++ (name, kind) ∷ []))) f l f'' l''
 one_more r0 r r' xs kind name f f' f'' l l' l'' m step =
-    moved_same (rest_left r0) (rest_left r') (λ x. after_items (entries_of xs) (after_item mlocate (EntryItem kind name) x)) (after_items (entries_of (xs ++ (name, kind) ∷ []))) f f'' l l''
+    moved_same (items_left r0) (items_left r') (λ x. after_items (entries_of xs) (after_item mlocate (EntryItem kind name) x)) (after_items (entries_of (xs ++ (name, kind) ∷ []))) f f'' l l''
     (λ x. ap (λ (is : List Item). let y : Rest mlocate = record { items = is; ending = x.ending; place = x.place } in y) (entries_push xs (name, kind) x.items))
-    (moved_then (rest_left r0) (rest_left r) (rest_left r') (after_items (entries_of xs)) (after_item mlocate (EntryItem kind name)) f f' f'' l l' l'' m step)
+    (moved_then (items_left r0) (items_left r) (items_left r') (after_items (entries_of xs)) (after_item mlocate (EntryItem kind name)) f f' f'' l l' l'' m step)
 
 -- no memory was left behind these names
-pub names_lost : (r0 r : ReaderState) (xs : Listed) (l l' : Option (List ℕ)) → is_live r.stage ≡ true → r.version ≡ r0.version → MovedKnown (rest_left r0) (rest_left r) (after_items (entries_of xs)) r0.feed l r.feed l'
+pub names_lost : (r0 r : ReaderState) (xs : Listed) (l l' : Option (List ℕ)) → is_live r.stage ≡ true → r.version ≡ r0.version → MovedKnown (items_left r0) (items_left r) (after_items (entries_of xs)) r0.feed l r.feed l'
     → TakenKnown (own r0) r0 l r l'
 names_lost r0 r xs None l' live version m = tt
 names_lost r0 r xs (Some a) None live version m = absurd m
@@ -262,11 +262,11 @@ pub names_err : (r0 r : ReaderState) (l l' : Option (List ℕ)) (into : Listed) 
 names_err r0 r l l' into (Ok x) h t = absurd cc
 names_err r0 r l l' into (Err e) h t = t
 
-bad_own : (r : ReaderState) (w : Window) (xs : Listed) (is : List Item) → (rest_left r w).items ≡ entries_of xs ++ is → are_usable xs ≡ false → own r w ≡ []
+bad_own : (r : ReaderState) (w : Window) (xs : Listed) (is : List Item) → (items_left r w).items ≡ entries_of xs ++ is → are_usable xs ≡ false → own r w ≡ []
 bad_own r w xs is e bad = own_none r w (and_none _ _ (ap (λ (l : List Item). are_usable (names_first l)) e ∙ ap are_usable (first_names xs is) ∙ unusable xs (names_first is) bad))
 
 -- these names are no record's
-pub names_bad : (r0 r : ReaderState) (xs : Listed) (l l' : Option (List ℕ)) → is_live r.stage ≡ true → r.version ≡ r0.version → are_usable xs ≡ false → MovedKnown (rest_left r0) (rest_left r) (after_items (entries_of xs)) r0.feed l r.feed l'
+pub names_bad : (r0 r : ReaderState) (xs : Listed) (l l' : Option (List ℕ)) → is_live r.stage ≡ true → r.version ≡ r0.version → are_usable xs ≡ false → MovedKnown (items_left r0) (items_left r) (after_items (entries_of xs)) r0.feed l r.feed l'
     → TakenKnown (λ w. []) r0 l r l'
 names_bad r0 r xs None l' live version bad m = tt
 names_bad r0 r xs (Some a) None live version bad m = absurd m
@@ -276,7 +276,7 @@ names_bad r0 r xs (Some a) (Some b) live version bad m =
 
 -- the directory has its end
 pub names_whole : (r0 r r' : ReaderState) (xs : Listed) (l l' l'' : Option (List ℕ)) → is_live r'.stage ≡ true → r.version ≡ r0.version → r'.version ≡ r.version → are_usable xs ≡ true
-    → MovedKnown (rest_left r0) (rest_left r) (after_items (entries_of xs)) r0.feed l r.feed l' → MovedKnown (rest_left r) (rest_left r') (after_item mlocate EndItem) r.feed l' r'.feed l''
+    → MovedKnown (items_left r0) (items_left r) (after_items (entries_of xs)) r0.feed l r.feed l' → MovedKnown (items_left r) (items_left r') (after_item mlocate EndItem) r.feed l' r'.feed l''
     → TakenKnown (λ w. (record_of r0.version (head_of r0) xs, r'.place) ∷ []) r0 l r' l''
 names_whole r0 r r' xs None l' l'' live version version' good m step = tt
 names_whole r0 r r' xs (Some a) None l'' live version version' good m step = absurd m
@@ -285,42 +285,42 @@ names_whole r0 r r' xs (Some a) (Some b) (Some c) live version version' good m s
     let w : Window = window r0.feed a in
     let w' : Window = window r.feed b in
     let w'' : Window = window r'.feed c in
-    let is : List Item = (rest_left r' w'').items in
+    let is : List Item = (items_left r' w'').items in
     let at : r0.place + sizes (entries_of xs) ≡ r.place = places_move r0 r w w' (entries_of xs) m.whole in
     let at' : r.place + size EndItem ≡ r'.place = place_moves r r' w' w'' EndItem step.whole in
-    let first : (rest_left r w').items ≡ EndItem ∷ is = ap (λ (x : Rest mlocate). x.items) step.whole in
-    let same : (rest_left r0 w).items ≡ entries_of xs ++ EndItem ∷ is = ap (λ (x : Rest mlocate). x.items) m.whole ∙ ap (λ (l : List Item). entries_of xs ++ l) first in
-    let blocks : placed_in r0.version r0.place (rest_left r0 w).items ≡ placed_in r'.version r'.place is =
+    let first : (items_left r w').items ≡ EndItem ∷ is = ap (λ (x : Rest mlocate). x.items) step.whole in
+    let same : (items_left r0 w).items ≡ entries_of xs ++ EndItem ∷ is = ap (λ (x : Rest mlocate). x.items) m.whole ∙ ap (λ (l : List Item). entries_of xs ++ l) first in
+    let blocks : placed_in r0.version r0.place (items_left r0 w).items ≡ placed_in r'.version r'.place is =
     ap (placed_in r0.version r0.place) same ∙ placed_behind r0.version r0.place xs (EndItem ∷ is)
     ∙ ap (λ (p : ℕ). placed_in r0.version (p + size EndItem) is) at ∙ ap (λ (p : ℕ). placed_in r0.version p is) at' ∙ ap (λ (v : ℕ). placed_in v r'.place is) (sym (version' ∙ version)) in
-    let heads : heads_in (rest_left r0 w).items ≡ heads_in is = ap heads_in same ∙ heads_behind xs (EndItem ∷ is) in
+    let heads : heads_in (items_left r0 w).items ≡ heads_in is = ap heads_in same ∙ heads_behind xs (EndItem ∷ is) in
     let mine : own r0 w ≡ (record_of r0.version (head_of r0) xs, r'.place) ∷ [] = own_some r0 w xs is r'.place same good (omega (arith, at, at')) in
     (λ i. let c : Coming = record { blocks = mine i ++ blocks i; heads = r0.path ∷ heads i } in c) ∙ ap (with_own ((record_of r0.version (head_of r0) xs, r'.place) ∷ []) r0.path) (sym (live_is r' w'' live))
 
 -- the directory has no end
-bare_names : (r : ReaderState) (w : Window) (xs : Listed) (place : ℕ) (e : Ending) → rest_left r w ≡ after_items (entries_of xs) (no_items mlocate place e) → coming_at r w ≡ with_own [] r.path nothing
+bare_names : (r : ReaderState) (w : Window) (xs : Listed) (place : ℕ) (e : Ending) → items_left r w ≡ after_items (entries_of xs) (no_items mlocate place e) → coming_at r w ≡ with_own [] r.path nothing
 bare_names r w xs place e k =
-    let same : (rest_left r w).items ≡ entries_of xs ++ [] = ap (λ (x : Rest mlocate). x.items) k in
-    let blocks : placed_in r.version r.place (rest_left r w).items ≡ [] = ap (placed_in r.version r.place) same ∙ placed_behind r.version r.place xs [] in
-    let heads : heads_in (rest_left r w).items ≡ [] = ap heads_in same ∙ heads_behind xs [] in
-    let mine : own r w ≡ [] = own_none r w (open_end (is_closed (rest_left r w).items) _ (ap is_closed same ∙ closed_behind xs [])) in
+    let same : (items_left r w).items ≡ entries_of xs ++ [] = ap (λ (x : Rest mlocate). x.items) k in
+    let blocks : placed_in r.version r.place (items_left r w).items ≡ [] = ap (placed_in r.version r.place) same ∙ placed_behind r.version r.place xs [] in
+    let heads : heads_in (items_left r w).items ≡ [] = ap heads_in same ∙ heads_behind xs [] in
+    let mine : own r w ≡ [] = own_none r w (open_end (is_closed (items_left r w).items) _ (ap is_closed same ∙ closed_behind xs [])) in
     λ i. let c : Coming = record { blocks = mine i ++ blocks i; heads = r.path ∷ heads i } in c
   where
     open_end : (b c : Bool) → b ≡ false → (b && c) ≡ false
     open_end b c is = ap (λ (x : Bool). x && c) is
 
-ends_bare : (r0 r r' : ReaderState) (xs : Listed) (l l' l'' : Option (List ℕ)) (e : Ending) → is_read_fault e ≡ false → is_live r'.stage ≡ false → MovedKnown (rest_left r0) (rest_left r) (after_items (entries_of xs)) r0.feed l r.feed l'
-    → EndsKnown (rest_left r) (no_items mlocate r.place) r.feed l' l'' e → TakenKnown (λ w. []) r0 l r' l''
+ends_bare : (r0 r r' : ReaderState) (xs : Listed) (l l' l'' : Option (List ℕ)) (e : Ending) → is_read_fault e ≡ false → is_live r'.stage ≡ false → MovedKnown (items_left r0) (items_left r) (after_items (entries_of xs)) r0.feed l r.feed l'
+    → EndsKnown (items_left r) (no_items mlocate r.place) r.feed l' l'' e → TakenKnown (λ w. []) r0 l r' l''
 ends_bare r0 r r' xs None l' l'' e plain dead m q = tt
 ends_bare r0 r r' xs (Some a) None l'' e plain dead m q = absurd m
 ends_bare r0 r r' xs (Some a) (Some b) None e plain dead m q = absurd q
 ends_bare r0 r r' xs (Some a) (Some b) (Some c) e plain dead m q =
-    let bare : rest_left r (window r.feed b) ≡ no_items mlocate r.place e = rw plain at q in
+    let bare : items_left r (window r.feed b) ≡ no_items mlocate r.place e = rw plain at q in
     bare_names r0 _ xs r.place e (m.whole ∙ ap (after_items (entries_of xs)) bare)
-    ∙ ap (λ (x : Bool). with_own [] r0.path (if x then coming_in r'.version r'.place (rest_left r' (window r'.feed c)).items else nothing)) (sym dead)
+    ∙ ap (λ (x : Bool). with_own [] r0.path (if x then coming_in r'.version r'.place (items_left r' (window r'.feed c)).items else nothing)) (sym dead)
 
-short_names : (dir : List ℕ) (r0 r : ReaderState) (xs : Listed) (l l' l'' : Option (List ℕ)) → MovedKnown (rest_left r0) (rest_left r) (after_items (entries_of xs)) r0.feed l r.feed l'
-    → EndsKnown (rest_left r) (no_items mlocate r.place) r.feed l' l'' (Err faults.ReadFault) → StopsKnown true dir (coming_at r0) r0.feed l l''
+short_names : (dir : List ℕ) (r0 r : ReaderState) (xs : Listed) (l l' l'' : Option (List ℕ)) → MovedKnown (items_left r0) (items_left r) (after_items (entries_of xs)) r0.feed l r.feed l'
+    → EndsKnown (items_left r) (no_items mlocate r.place) r.feed l' l'' (Err faults.ReadFault) → StopsKnown true dir (coming_at r0) r0.feed l l''
 short_names dir r0 r xs None l' l'' m q = tt
 short_names dir r0 r xs (Some a) None l'' m q = absurd m
 short_names dir r0 r xs (Some a) (Some b) None m q = absurd q
@@ -332,8 +332,8 @@ short_names dir r0 r xs (Some a) (Some b) (Some c) m q =
       came = subst (λ (x : Coming). Skips dir x nothing) (sym (bare_names r0 _ xs r.place q.ending (m.parts q.goes_on (length c) q.fewer ∙ ap (after_items (entries_of xs)) q.nothing))) (record { same = refl; some = λ r h. h; rise = λ h. refl });
     }
 
-pub names_refused : (r0 r r' : ReaderState) (xs into : Listed) (l l' l'' : Option (List ℕ)) (fault : DbFault) → is_live r'.stage ≡ false → MovedKnown (rest_left r0) (rest_left r) (after_items (entries_of xs)) r0.feed l r.feed l'
-    → EndsKnown (rest_left r) (no_items mlocate r.place) r.feed l' l'' (Err fault) → NamesKnown (Ok (refusal_of fault)) r0 l r' l'' into
+pub names_refused : (r0 r r' : ReaderState) (xs into : Listed) (l l' l'' : Option (List ℕ)) (fault : DbFault) → is_live r'.stage ≡ false → MovedKnown (items_left r0) (items_left r) (after_items (entries_of xs)) r0.feed l r.feed l'
+    → EndsKnown (items_left r) (no_items mlocate r.place) r.feed l' l'' (Err fault) → NamesKnown (Ok (refusal_of fault)) r0 l r' l'' into
 names_refused r0 r r' xs into l l' l'' faults.ReadFault dead m q = λ dir. short_names dir r0 r xs l l' l'' m q
 names_refused r0 r r' xs into l l' l'' faults.NotADatabase dead m q = ends_bare r0 r r' xs l l' l'' (Err faults.NotADatabase) refl dead m q
 names_refused r0 r r' xs into l l' l'' faults.TooLarge dead m q = ends_bare r0 r r' xs l l' l'' (Err faults.TooLarge) refl dead m q

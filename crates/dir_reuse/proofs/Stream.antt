@@ -17,7 +17,7 @@ use Rattle.byte_feed.specs.Paths.{Rest, rest_of, after_item, no_items}
 use Rattle.byte_feed.specs.Calls.{Broke, EndsKnown}
 use Rattle.mlocate_db.specs.Items.{Item, Header, HeaderItem, HeadItem, EntryItem, EndItem, AtStart, mlocate}
 use Rattle.mlocate_db.specs.declared.db_reader.Stage.TheVariants as stages
-use Rattle.mlocate_db.specs.Reader.{ReaderState, fresh_on, is_live, rest_left, Starts, StartKnown}
+use Rattle.mlocate_db.specs.Reader.{ReaderState, fresh_on, is_live, items_left, Starts, StartKnown}
 use Rattle.tree_scan.specs.Records.{Record, Vouches, LeavesOf, Leaves, is_vouched}
 use Rattle.dir_reuse.specs.declared.cursor.Cursor.{Cursor}
 use Rattle.dir_reuse.specs.Usable.{records, records_behind, records_in, record_at, heads_in, paths_rise, is_none, is_ordered}
@@ -112,7 +112,7 @@ placed_records version place (EntryItem kind name ∷ items) = placed_records ve
 placed_records version place (EndItem ∷ items) = placed_records version (place + size EndItem) items
 
 -- a reader that has read nothing gives the front
-front_is : (file : List ℕ) → (rest_left (fresh_on (empty_at 0)) (window (empty_at 0) file)).items ≡ front mlocate file
+front_is : (file : List ℕ) → (items_left (fresh_on (empty_at 0)) (window (empty_at 0) file)).items ≡ front mlocate file
 unfolding rest_of
 front_is file =
     let len : 0 + length file ≡ length file = omega arith in
@@ -146,10 +146,10 @@ abbrev Opens : List ℕ → List ℕ → List ℕ → List ℕ → Cursor → Ty
 Opens root block file y c = (known c (Some y) ≡ Some (records root block file)) × (is_known_ordered c (Some y) ≡ is_ordered root block file)
 
 opens_by : (root block file y : List ℕ) (r' : ReaderState) (header : Header) (t : Bool) → t ≡ (bytes_eq header.root root && bytes_eq header.block block) → r'.version ≡ header.version → is_live r'.stage ≡ true
-    → front mlocate file ≡ HeaderItem header ∷ (rest_left r' (window r'.feed y)).items → Opens root block file y (opened_by r' t true)
+    → front mlocate file ≡ HeaderItem header ∷ (items_left r' (window r'.feed y)).items → Opens root block file y (opened_by r' t true)
 opens_by root block file y r' header true is version live all =
     let w : Window = window r'.feed y in
-    let items : List Item = (rest_left r' w).items in
+    let items : List Item = (items_left r' w).items in
     let c : Cursor = opened_by r' true true in
     let given : ahead c w ≡ coming_in r'.version r'.place items = ahead_apart c w refl refl ∙ live_is r' w live in
     let told : records root block file ≡ records_in header.version items = ap (records_behind root block) all ∙ ap (λ (b : Bool). if b then records_in header.version items else []) (sym is) in
@@ -159,7 +159,7 @@ opens_by root block file y r' header true is version live all =
     (known_open c y live ∙ ap (λ (rs : List Record). Some rs) same, order_open c y live ∙ (λ i. is_none (same i) || paths_rise (heads i)))
 opens_by root block file y r' header false is version live all =
     let w : Window = window r'.feed y in
-    let items : List Item = (rest_left r' w).items in
+    let items : List Item = (items_left r' w).items in
     let c : Cursor = opened_by r' false true in
     let told : records root block file ≡ [] = ap (records_behind root block) all ∙ ap (λ (b : Bool). if b then records_in header.version items else []) (sym is) in
     (known_shut c (Some y) refl ∙ ap (λ (rs : List Record). Some rs) (sym told), order_shut c (Some y) refl ∙ ap (λ (rs : List Record). is_none rs || paths_rise (heads_in (front mlocate file))) (sym told))
@@ -171,7 +171,7 @@ opens_ok root block r' (Some file) None same m = absurd m
 opens_ok root block r' (Some file) (Some y) same m =
     let b = m.begins in
     let header = b.header in
-    let items : List Item = (rest_left r' (window r'.feed y)).items in
+    let items : List Item = (items_left r' (window r'.feed y)).items in
     let all : front mlocate file ≡ HeaderItem header ∷ items = sym (front_is file) ∙ ap (λ (x : Rest mlocate). x.items) b.moved.whole in
     let is : same ≡ (bytes_eq header.root root && bytes_eq header.block block) = same_texts header.root root header.block block same m.is_same in
     opens_by root block file y r' header same is b.version (ap is_live b.between) all

@@ -6,7 +6,7 @@ use Rattle.path_order.specs.Order.{path_cmp}
 use Rattle.byte_feed.specs.Front.{Window}
 use Rattle.byte_feed.specs.Feed.{FeedState, window, so_far}
 use Rattle.mlocate_db.specs.Items.{Head, Item, HeadItem, EntryItem, EndItem, HeaderItem, spell}
-use Rattle.mlocate_db.specs.Reader.{ReaderState, is_live, rest_left}
+use Rattle.mlocate_db.specs.Reader.{ReaderState, is_live, items_left}
 use Rattle.tree_scan.specs.Records.{Record}
 use Rattle.dir_reuse.specs.Usable.{record_at, heads_in, paths_rise}
 
@@ -50,7 +50,7 @@ head_of r = record { seconds = r.stamp.seconds; nanos = r.stamp.nanos; device = 
 
 -- what a reader still gives
 abbrev pub coming : ReaderState → Window → Coming
-coming r w = if is_live r.stage then coming_in r.version r.place (rest_left r w).items else nothing
+coming r w = if is_live r.stage then coming_in r.version r.place (items_left r w).items else nothing
 
 -- the same, where the head that was read last is to come too
 abbrev pub behind_head : ReaderState → List Item → Coming
@@ -60,7 +60,7 @@ behind_head r items = record {
 }
 
 abbrev pub coming_at : ReaderState → Window → Coming
-coming_at r w = behind_head r (rest_left r w).items
+coming_at r w = behind_head r (items_left r w).items
 
 -- ---- what is passed
 

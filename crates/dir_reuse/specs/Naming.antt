@@ -8,7 +8,7 @@ use Rattle.byte_feed.specs.declared.damage.DbFault.TheVariants as faults
 use Rattle.byte_feed.specs.Front.{Window}
 use Rattle.byte_feed.specs.Feed.{window}
 use Rattle.mlocate_db.specs.Items.{Item, EntryItem}
-use Rattle.mlocate_db.specs.Reader.{ReaderState, is_live, rest_left}
+use Rattle.mlocate_db.specs.Reader.{ReaderState, is_live, items_left}
 use Rattle.dir_reuse.specs.declared.naming.Names.{Names}
 use Rattle.dir_reuse.specs.declared.naming.Names.TheVariants as names
 use Rattle.dir_reuse.specs.Usable.{record_of}
@@ -20,7 +20,7 @@ entries_of names = map (λ e. EntryItem e.1 e.0) names
 
 -- the record of the directory whose head was read last, if it is usable
 abbrev pub own : ReaderState → Window → List Placed
-own r w = placed_at r.version r.place (head_of r) (rest_left r w).items
+own r w = placed_at r.version r.place (head_of r) (items_left r w).items
 
 -- these records of a directory with this path, and then what is to come
 abbrev pub with_own : List Placed → List ℕ → Coming → Coming
