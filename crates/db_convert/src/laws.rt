@@ -7,6 +7,7 @@ ghost use Rattle.any_db.specs.Formats.{format_of};
 ghost use Rattle.db_convert.specs.Blocks.{database_items, encode_mlocate};
 ghost use Rattle.db_convert.specs.declared.format.Format.{Format};
 ghost use Rattle.db_convert.specs.declared.format.Format.TheVariants.{Mlocate};
+ghost use Rattle.db_convert.specs.Example.{four_paths, their_items};
 ghost use Rattle.db_convert.specs.Conversion.{grammar_of, encode, as_read, CanWrite, database_format};
 
 /// What is written for a list of paths gives it back, and ends whole. A database of mlocate gives each path once, by its
@@ -16,4 +17,9 @@ pub fn written_is_read_back()
     ensures given { (to : Format) (paths : List (List ℕ)) → CanWrite to paths → GivesWhole (contents (grammar_of to) (encode to paths)) (as_read to paths) }
     ensures items { (paths : List (List ℕ)) → CanWrite Mlocate paths → front mlocate (encode_mlocate paths) ≡ database_items paths }
     ensures told { (to : Format) (paths : List (List ℕ)) → IfSome (database_format to) (λ format. format_of (encode to paths) ≡ Some format) }
+{}
+
+/// The items of a worked database: which directories have a block, in which order, and which names are directories.
+pub fn example_is_written()
+    ensures { database_items four_paths ≡ their_items }
 {}
