@@ -15,9 +15,9 @@ use Rattle.path_order.specs.Order.{path_cmp}
 use Rattle.path_order.proofs.ParentLemmas.{HasParent}
 use Rattle.path_order.proofs.OrderLemmas.{path_total}
 use Rattle.byte_feed.specs.Field.{IsText, max_path}
-use Rattle.byte_feed.specs.Front.{Follow, IsDatabase, left_by, limit}
+use Rattle.byte_feed.specs.Front.{Follow, IsDatabase, left_by, limit, front}
 use Rattle.byte_feed.specs.Paths.{PathAt, ToCome, IsPath, paths_of, contents, GivesWhole, given_by}
-use Rattle.byte_feed.proofs.ReadBack.{database_given}
+use Rattle.byte_feed.proofs.ReadBack.{database_front, database_given}
 use Rattle.mlocate_db.specs.Items.{Header, Item, HeaderItem, HeadItem, EndItem, AtStart, Between, Inside, in_directory, room_in, allowed, mlocate, spell}
 use Rattle.mlocate_db.proofs.ItemLaws.{mlocate_laws}
 use Rattle.mlocate_db.proofs.ItemSizes.{mlocate_shrinks}
@@ -26,7 +26,7 @@ use Rattle.updatedb_conf.specs.Settings.{default_settings}
 use Rattle.updatedb_conf.proofs.BlockRooms.{length_block}
 use Rattle.updatedb_conf.proofs.Rooms.{room-empty}
 use Rattle.db_convert.specs.Blocks.{parents, names_in, header, header_item, entry_item, block_items, database_items, encode_mlocate, byte_cmp}
-use Rattle.db_convert.proofs.Sets.{Each, each_map, each_more, each_filter, in_order_each}
+use Rattle.db_convert.proofs.Sets.{Each, each_map, each_more, each_filter, sorted_unique_each}
 
 abbrev texts : List PathAt → List (List ℕ)
 texts paths = map (λ (p : PathAt). p.text) paths
@@ -133,14 +133,14 @@ Good path = Parts (parent_of path) (base_of path)
 
 names_good : (paths : List (List ℕ)) (dir : List ℕ) → Each Good paths → Each (IsText (room_in dir)) (names_in paths dir)
 names_good paths dir h =
-    in_order_each byte_cmp nat_list_cmp_total (IsText (room_in dir)) (map base_of (filter (λ path. bytes_eq (parent_of path) dir) paths))
+    sorted_unique_each byte_cmp nat_list_cmp_total (IsText (room_in dir)) (map base_of (filter (λ path. bytes_eq (parent_of path) dir) paths))
     (each_map (IsText (room_in dir)) base_of (filter (λ path. bytes_eq (parent_of path) dir) paths)
     (each_filter Good (λ path. IsText (room_in dir) (base_of path)) (λ path. bytes_eq (parent_of path) dir)
     (λ path e good. subst (λ (d : List ℕ). IsText (room_in d) (base_of path)) ((bytes_eq-Decides (parent_of path) dir).0 e) good.named) paths h))
 
 blocks_good : (paths : List (List ℕ)) → Each Good paths → Each (IsBlock paths) (parents paths)
 blocks_good paths h =
-    in_order_each path_cmp path_total (IsBlock paths) (map parent_of paths)
+    sorted_unique_each path_cmp path_total (IsBlock paths) (map parent_of paths)
     (each_map (IsBlock paths) parent_of paths (each_more Good (λ path. IsBlock paths (parent_of path)) (λ path good. record { text = good.text; names = names_good paths (parent_of path) h }) paths h))
 
 -- ---- the database
@@ -160,6 +160,9 @@ database_whole paths h below = record {
   may_end = ap (mlocate.may_end) (blocks_left paths (parents paths));
   below = below;
 }
+
+pub items_back : (paths : List (List ℕ)) → Each Good paths → length (encode_mlocate paths) < limit → front mlocate (encode_mlocate paths) ≡ database_items paths
+items_back paths h below = database_front mlocate mlocate_shrinks mlocate_laws (database_items paths) (database_whole paths h below)
 
 header_texts : (h : Header) (items : List Item) (more : List (List ℕ)) → ((place heads : ℕ) → texts (paths_of mlocate (Between h.version) place heads items) ≡ more) → texts (paths_of mlocate AtStart 0 0 (HeaderItem h ∷ items)) ≡ more
 header_texts h items more k = k (0 + length (spell (HeaderItem h))) (0 + 0)

@@ -12,7 +12,7 @@ use Rattle.std.proofs.lemmas.Slice.Eq.{bytes_eq-Decides}
 use Rattle.path_order.specs.Path.{parent_of, base_of, joined}
 use Rattle.path_order.specs.Order.{path_cmp}
 use Rattle.path_order.proofs.OrderLemmas.{path_total, path_same}
-use Rattle.db_convert.specs.Blocks.{in_order, byte_cmp, parents, names_in, Entry, entry_of, entry_path, entry_cmp, by_directory}
+use Rattle.db_convert.specs.Blocks.{sorted_unique, byte_cmp, parents, names_in, Entry, entry_of, entry_path, entry_cmp, by_directory}
 use Rattle.db_convert.proofs.DatabaseItems.{block_paths}
 
 abbrev marked : {K : Type 0} → List K → List (K × Unit {0})
@@ -56,14 +56,14 @@ module _ {K : Type 0} (R : K → K → Ordering) where
   keys_marked [] = refl
   keys_marked (k ∷ ks) = ap (λ (r : List K). k ∷ r) (keys_marked ks)
 
-  in_order_sorted : (ks : List K) → Sorted (in_order R ks)
-  in_order_sorted ks = ap (is_sorted R) (marked_keys (entries (from_entries {R = R} (marked ks)))) ∙ is_true _ (entries_sorted (from_entries {R = R} (marked ks)))
+  sorted_unique_is_sorted : (ks : List K) → Sorted (sorted_unique R ks)
+  sorted_unique_is_sorted ks = ap (is_sorted R) (marked_keys (entries (from_entries {R = R} (marked ks)))) ∙ is_true _ (entries_sorted (from_entries {R = R} (marked ks)))
 
   found_by : (q : K) (ks : List K) → is_some (find R q (marked ks)) ≡ among q ks
   found_by q ks = is_some-find R q (marked ks) ∙ ap (list_any (eq_by_cmp R q)) (keys_marked ks)
 
-  in_order_among : IsTotalOrder R → (q : K) (ks : List K) → among q (in_order R ks) ≡ among q ks
-  in_order_among total q ks = sym (contains_key-keys (from_entries {R = R} (marked ks)) q) ∙ ap is_some (get-from_entries total (marked ks) q) ∙ found_by q ks
+  sorted_unique_among : IsTotalOrder R → (q : K) (ks : List K) → among q (sorted_unique R ks) ≡ among q ks
+  sorted_unique_among total q ks = sym (contains_key-keys (from_entries {R = R} (marked ks)) q) ∙ ap is_some (get-from_entries total (marked ks) q) ∙ found_by q ks
 
   unit_some : (a b : Option (Unit {0})) → is_some a ≡ is_some b → a ≡ b
   unit_some None None e = refl
@@ -72,7 +72,7 @@ module _ {K : Type 0} (R : K → K → Ordering) where
   unit_some (Some x) None e = absurd cc
 
   -- a sorted list with the same values is that order of them
-  sorted_is : IsTotalOrder R → IsAntisymmetric R → (ls ks : List K) → Sorted ls → ((q : K) → among q ls ≡ among q ks) → in_order R ks ≡ ls
+  sorted_is : IsTotalOrder R → IsAntisymmetric R → (ls ks : List K) → Sorted ls → ((q : K) → among q ls ≡ among q ks) → sorted_unique R ks ≡ ls
   sorted_is total apart ls ks up same =
       let sorted : T (is_sorted R (marked ls)) = from_true _ up in
       let maps : from_entries {R = R} (marked ks) ≡ from_sorted {R = R} (marked ls) = same_map total apart _ _ (λ q.
@@ -136,7 +136,7 @@ sorted_block dir (name ∷ names) rest up below h =
 sorted_listed : (paths dirs : List (List ℕ)) → Sorted path_cmp dirs → Sorted entry_cmp (listed paths dirs)
 sorted_listed paths [] up = refl
 sorted_listed paths (dir ∷ dirs) up =
-    sorted_block dir (names_in paths dir) (listed paths dirs) (in_order_sorted byte_cmp (map base_of (filter (λ path. bytes_eq (parent_of path) dir) paths))) (λ name. below_later paths dir name dirs (first _ _ up)) (sorted_listed paths dirs (second _ _ up))
+    sorted_block dir (names_in paths dir) (listed paths dirs) (sorted_unique_is_sorted byte_cmp (map base_of (filter (λ path. bytes_eq (parent_of path) dir) paths))) (λ name. below_later paths dir name dirs (first _ _ up)) (sorted_listed paths dirs (second _ _ up))
 
 -- ---- they are those of the list
 
@@ -229,9 +229,9 @@ among_paths : (paths : List (List ℕ)) (d n : List ℕ) → (among path_cmp d (
 among_paths paths d n =
     let a : List ℕ → Bool = λ path. is_dir d (parent_of path) in
     let b : List ℕ → Bool = λ path. is_base n (base_of path) in
-    let dirs : among path_cmp d (parents paths) ≡ list_any a paths = in_order_among path_cmp path_total d (map parent_of paths) ∙ any_map (is_dir d) parent_of paths in
+    let dirs : among path_cmp d (parents paths) ≡ list_any a paths = sorted_unique_among path_cmp path_total d (map parent_of paths) ∙ any_map (is_dir d) parent_of paths in
     let names : among byte_cmp n (names_in paths d) ≡ list_any (λ path. a path && b path) paths =
-    in_order_among byte_cmp nat_list_cmp_total n (map base_of (filter (λ path. bytes_eq (parent_of path) d) paths))
+    sorted_unique_among byte_cmp nat_list_cmp_total n (map base_of (filter (λ path. bytes_eq (parent_of path) d) paths))
     ∙ any_map (is_base n) base_of (filter (λ path. bytes_eq (parent_of path) d) paths)
     ∙ any_filter b (λ path. bytes_eq (parent_of path) d) paths
     ∙ any_same _ (λ path. a path && b path) (λ path. ap (λ (c : Bool). c && b path) (same_dir path d)) paths in
@@ -251,5 +251,5 @@ paths_listed paths (dir ∷ dirs) = block_listed dir (names_in paths dir) (liste
 pub by_directory_is : (paths : List (List ℕ)) → block_paths paths (parents paths) ≡ by_directory paths
 by_directory_is paths =
     sym (paths_listed paths (parents paths))
-    ∙ ap (map entry_path) (sym (sorted_is entry_cmp entry_total entry_apart (listed paths (parents paths)) (map entry_of paths) (sorted_listed paths (parents paths) (in_order_sorted path_cmp (map parent_of paths)))
+    ∙ ap (map entry_path) (sym (sorted_is entry_cmp entry_total entry_apart (listed paths (parents paths)) (map entry_of paths) (sorted_listed paths (parents paths) (sorted_unique_is_sorted path_cmp (map parent_of paths)))
     (λ q. among_listed paths q.0 q.1 (parents paths) ∙ among_paths paths q.0 q.1)))

@@ -2,3 +2,4 @@ pub mod Sets
 pub mod DatabaseItems
 pub mod Directories
 mod ReadBack
+mod Example

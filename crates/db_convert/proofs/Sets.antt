@@ -4,7 +4,7 @@ use Rattle.std.specs.Cmp.{IsTotalOrder}
 use Rattle.std.proofs.lemmas.List.{nil_from_length}
 use Rattle.std.specs.FinMap.{from_entries, entries, empty, keys, entries-insert, len-entries, len-empty}
 use Rattle.std.specs.FinMap.Entries.{put, by_order}
-use Rattle.db_convert.specs.Blocks.{in_order}
+use Rattle.db_convert.specs.Blocks.{sorted_unique}
 
 abbrev pub Each : {A : Type 0} → (A → Type 0) → List A → Type 0
 Each P [] = Unit {0}
@@ -44,5 +44,5 @@ module _ {K : Type 0} (order : K → K → Ordering) (total : IsTotalOrder order
   made_each [] h = subst (λ (es : List (K × Unit {0})). Each P (map (λ e. e.0) es)) (sym none) tt
   made_each (k ∷ ks) h = subst (λ (es : List (K × Unit {0})). Each P (map (λ e. e.0) es)) (sym (entries-insert total (from_entries (map (λ k. (k, tt {0})) ks)) k tt)) (put_each k _ h.0 (made_each ks h.1))
 
-  pub in_order_each : (ks : List K) → Each P ks → Each P (in_order order ks)
-  in_order_each ks h = made_each ks h
+  pub sorted_unique_each : (ks : List K) → Each P ks → Each P (sorted_unique order ks)
+  sorted_unique_each ks h = made_each ks h

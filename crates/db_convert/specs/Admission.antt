@@ -20,6 +20,6 @@ abbrev pub refusal : Format → AdmitCause
 refusal formats.List = Newline
 refusal to = NotNormal
 
--- the first path that is not admitted, by its place from 0, and the cause
-abbrev pub admits : Format → List (List ℕ) → Option (ℕ × AdmitCause)
-admits to paths = option_map (λ index. (index, refusal to)) (position (λ path. not (is_admitted to path)) paths)
+-- the first path that is refused, by its place from 0, and the cause; none where all are admitted
+abbrev pub first_refused : Format → List (List ℕ) → Option (ℕ × AdmitCause)
+first_refused to paths = option_map (λ index. (index, refusal to)) (position (λ path. not (is_admitted to path)) paths)

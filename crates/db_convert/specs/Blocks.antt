@@ -1,4 +1,4 @@
--- A database of mlocate over a list of paths.
+-- A database of mlocate over a list of paths. Only admitted paths are meant: normal paths below the root.
 use Rattle.std.specs.Prelude.{ℕ, false, List, [], ◌∷◌, ◌++◌, map, filter, if◌then◌else◌}
 use Rattle.std.specs.declared.cmp.Ordering.{Ordering}
 use Rattle.std.specs.Ordering.{nat_cmp, ordering_then}
@@ -15,20 +15,20 @@ use Rattle.updatedb_conf.specs.Block.{block}
 use Rattle.updatedb_conf.specs.Settings.{default_settings}
 use Rattle.mlocate_db.specs.Items.{Header, Item, HeaderItem, HeadItem, EntryItem, EndItem, mlocate}
 
--- Values in an order, each once: the keys of a finite map that has nothing at each.
-abbrev pub in_order : {K : Type 0} → (K → K → Ordering) → List K → List K
-in_order order values = keys (from_entries {R = order} (map (λ value. (value, tt {0})) values))
+-- values sorted by an order, each once
+abbrev pub sorted_unique : {K : Type 0} → (K → K → Ordering) → List K → List K
+sorted_unique order values = keys (from_entries {R = order} (map (λ value. (value, tt {0})) values))
 
 abbrev pub byte_cmp : List ℕ → List ℕ → Ordering
 byte_cmp = slice_cmp nat_cmp
 
--- the directories of these paths, in path order
+-- the directories of these paths, each once, in path order
 abbrev pub parents : List (List ℕ) → List (List ℕ)
-parents paths = in_order path_cmp (map parent_of paths)
+parents paths = sorted_unique path_cmp (map parent_of paths)
 
--- the names of a directory among these paths, in the order of their bytes
+-- the names of a directory among these paths, each once, in the order of their bytes
 abbrev pub names_in : List (List ℕ) → List ℕ → List (List ℕ)
-names_in paths dir = in_order byte_cmp (map base_of (filter (λ path. bytes_eq (parent_of path) dir) paths))
+names_in paths dir = sorted_unique byte_cmp (map base_of (filter (λ path. bytes_eq (parent_of path) dir) paths))
 
 -- A path is a directory exactly where it is the directory of one of these paths.
 abbrev pub kind_in : List (List ℕ) → List ℕ → Kind
@@ -52,6 +52,7 @@ block_items paths dir = HeadItem (record { seconds = 0; nanos = 0; device = 0; p
 abbrev pub database_items : List (List ℕ) → List Item
 database_items paths = header_item ∷ flat_map (block_items paths) (parents paths)
 
+-- the bytes of the database of admitted paths
 abbrev pub encode_mlocate : List (List ℕ) → List ℕ
 encode_mlocate paths = spelling mlocate (database_items paths)
 
@@ -71,6 +72,6 @@ entry_path entry = joined entry.0 entry.1
 abbrev pub entry_cmp : Entry → Entry → Ordering
 entry_cmp a b = ordering_then (path_cmp a.0 b.0) (byte_cmp a.1 b.1)
 
--- these paths in that order, each once
+-- Admitted paths in that order, each once. Of other paths the directory and the name need not give the path again.
 abbrev pub by_directory : List (List ℕ) → List (List ℕ)
-by_directory paths = map entry_path (in_order entry_cmp (map entry_of paths))
+by_directory paths = map entry_path (sorted_unique entry_cmp (map entry_of paths))

@@ -13,18 +13,18 @@ use Rattle.any_db.specs.declared.format.DatabaseFormat.{DatabaseFormat}
 use Rattle.any_db.specs.declared.format.DatabaseFormat.TheVariants as databases
 use Rattle.db_convert.specs.declared.format.Format.{Format}
 use Rattle.db_convert.specs.declared.format.Format.TheVariants as formats
-use Rattle.db_convert.specs.Admission.{admits}
+use Rattle.db_convert.specs.Admission.{first_refused}
 use Rattle.db_convert.specs.Blocks.{encode_mlocate, by_directory}
 
--- what the items of a format are
-abbrev pub items_in : Format → feed.Format
-items_in formats.Mlocate = mlocate
-items_in formats.Locate02 = locate02
-items_in formats.Bigram = bigram
-items_in formats.List = list
-items_in formats.List0 = list0
+-- which items a format has, and how they are read and spelled
+abbrev pub grammar_of : Format → feed.Format
+grammar_of formats.Mlocate = mlocate
+grammar_of formats.Locate02 = locate02
+grammar_of formats.Bigram = bigram
+grammar_of formats.List = list
+grammar_of formats.List0 = list0
 
--- what is written
+-- what is written for admitted paths
 abbrev pub encode : Format → List (List ℕ) → List ℕ
 encode formats.Mlocate paths = encode_mlocate paths
 encode formats.Locate02 paths = encode02 paths
@@ -32,8 +32,8 @@ encode formats.Bigram paths = encode_bigram paths
 encode formats.List paths = encode_list 10 paths
 encode formats.List0 paths = encode_list 0 paths
 
--- What is read back: the same paths; from mlocate's database each once, by their directories in path order, and then by
--- their names.
+-- What is read back of admitted paths: the same paths; from mlocate's database each once, by their directories in path
+-- order, and then by their names.
 abbrev pub as_read : Format → List (List ℕ) → List (List ℕ)
 as_read formats.Mlocate paths = by_directory paths
 as_read to paths = paths
@@ -41,12 +41,12 @@ as_read to paths = paths
 -- These paths can be written: each is one that a reader gives, all are admitted, and the text is below the limit.
 pub record CanWrite (to : Format) (paths : List (List ℕ)) : Type 0 where
   pub readable : All IsPath paths
-  pub admitted : admits to paths ≡ None
+  pub admitted : first_refused to paths ≡ None
   pub below : length (encode to paths) < feed.limit
 
 -- the databases among the formats, which are told from their bytes
-abbrev pub database_of : Format → Option DatabaseFormat
-database_of formats.Mlocate = Some databases.Mlocate
-database_of formats.Locate02 = Some databases.Locate02
-database_of formats.Bigram = Some databases.Bigram
-database_of to = None
+abbrev pub database_format : Format → Option DatabaseFormat
+database_format formats.Mlocate = Some databases.Mlocate
+database_format formats.Locate02 = Some databases.Locate02
+database_format formats.Bigram = Some databases.Bigram
+database_format to = None

@@ -6,4 +6,4 @@ mod format;
 mod laws;
 
 pub use format::{AdmitCause, Format};
-pub use laws::written_is_read_back;
+pub use laws::{example_is_written, written_is_read_back};

@@ -72,15 +72,15 @@ item_open mark last bytes bare =
 
 pub test_parts : (path : List ℕ) (u : Unit {0}) → path_test path ≡ Ok u → (length path ≤ max_path) × All (λ b. 0 < b) path
 test_parts path u e =
-    seq (demand (list_all (ltb 0) (take max_path path)) ZeroChar) _ _ _ e (λ (v : Unit {0}) e1 k1.
+    seq (demand (list_all (ltb 0) (take (max_path + 1) path)) ZeroChar) _ _ _ e (λ (v : Unit {0}) e1 k1.
     let fits = leb-true (length path) max_path (demand_ok (leb (length path) max_path) LongPath u k1) in
-    let whole : take max_path path ≡ path = take_all max_path path fits in
-    let pass = AllPass-from_list_all (ltb 0) (take max_path path) (demand_ok (list_all (ltb 0) (take max_path path)) ZeroChar v e1) in
+    let whole : take (max_path + 1) path ≡ path = take_all (max_path + 1) path (omega (arith, fits)) in
+    let pass = AllPass-from_list_all (ltb 0) (take (max_path + 1) path) (demand_ok (list_all (ltb 0) (take (max_path + 1) path)) ZeroChar v e1) in
     (fits, subst (λ (p : List ℕ). All (λ b. 0 < b) p) whole (λ k d lt. ltb-true 0 _ (pass k d lt))))
 
 pub test_again : (path : List ℕ) → length path ≤ max_path → All (λ b. 0 < b) path → path_test path ≡ Ok tt
 test_again path fits plain =
-    let whole : take max_path path ≡ path = take_all max_path path fits in
+    let whole : take (max_path + 1) path ≡ path = take_all (max_path + 1) path (omega (arith, fits)) in
     let good : list_all (ltb 0) path ≡ true = list_all-from_AllPass (ltb 0) path (λ k d lt. lt-ltb 0 _ (plain k d lt)) in
     let short : leb (length path) max_path ≡ true = le-leb _ _ fits in
     rw (whole, good, short) refl

@@ -38,7 +38,7 @@ marked_by path rest rest' true false c s e = e
 marked_by path rest rest' false b c s e = e
 
 marked_stays : (path rest rest' : List ℕ) (s : Stop) → (path_test path >>= λ _. marked_at path rest) ≡ failed s → (path_test path >>= λ _. marked_at path rest') ≡ failed s
-marked_stays path rest rest' s e = marked_by path rest rest' (list_all (ltb 0) (take max_path path)) (leb (length path) max_path) (ltb 0 (length path)) s e
+marked_stays path rest rest' s e = marked_by path rest rest' (list_all (ltb 0) (take (max_path + 1) path)) (leb (length path) max_path) (ltb 0 (length path)) s e
 
 abbrev failed_test : Stop → Result (Unit {0}) Stop
 failed_test s = Err s
@@ -46,28 +46,28 @@ failed_test s = Err s
 false_and : (a b : Bool) → a ≡ false → (a && b) ≡ false
 false_and a b e = rw e refl
 
-grown_by : (path more : List ℕ) (a b : Bool) (s : Stop) → list_all (ltb 0) (take max_path path) ≡ a → leb (length path) max_path ≡ b → (demand a ZeroChar >>= λ _. demand b LongPath) ≡ failed_test s → path_test (path ++ more) ≡ failed_test s
+grown_by : (path more : List ℕ) (a b : Bool) (s : Stop) → list_all (ltb 0) (take (max_path + 1) path) ≡ a → leb (length path) max_path ≡ b → (demand a ZeroChar >>= λ _. demand b LongPath) ≡ failed_test s → path_test (path ++ more) ≡ failed_test s
 grown_by path more true true s all short e = absurd cc
 grown_by path more true false s all short e =
     let long : max_path < length path = leb-false (length path) max_path short in
-    let same : take max_path (path ++ more) ≡ take max_path path = take-append-le max_path path more (omega (arith, long)) in
+    let same : take (max_path + 1) (path ++ more) ≡ take (max_path + 1) path = take-append-le (max_path + 1) path more (omega (arith, long)) in
     let longer : leb (length (path ++ more)) max_path ≡ false = lt-leb _ _ (omega (arith, long, length-append path more)) in
     rw (same, all, longer) e
 grown_by path more false true s all short e =
     let fits : length path ≤ max_path = leb-true (length path) max_path short in
-    let size : max_path ≡ length path + (max_path - length path) = omega (arith, fits) in
-    let front : take max_path (path ++ more) ≡ path ++ take (max_path - length path) more = ap (λ (n : ℕ). take n (path ++ more)) size ∙ take-append-add path more (max_path - length path) in
-    let none : list_all (ltb 0) path ≡ false = ap (list_all (ltb 0)) (sym (take_all max_path path fits)) ∙ all in
-    let still : list_all (ltb 0) (take max_path (path ++ more)) ≡ false = ap (list_all (ltb 0)) front ∙ list_all-append (ltb 0) path (take (max_path - length path) more) ∙ false_and _ _ none in
+    let size : max_path + 1 ≡ length path + (max_path + 1 - length path) = omega (arith, fits) in
+    let front : take (max_path + 1) (path ++ more) ≡ path ++ take (max_path + 1 - length path) more = ap (λ (n : ℕ). take n (path ++ more)) size ∙ take-append-add path more (max_path + 1 - length path) in
+    let none : list_all (ltb 0) path ≡ false = ap (list_all (ltb 0)) (sym (take_all (max_path + 1) path (omega (arith, fits)))) ∙ all in
+    let still : list_all (ltb 0) (take (max_path + 1) (path ++ more)) ≡ false = ap (list_all (ltb 0)) front ∙ list_all-append (ltb 0) path (take (max_path + 1 - length path) more) ∙ false_and _ _ none in
     rw still e
 grown_by path more false false s all short e =
     let long : max_path < length path = leb-false (length path) max_path short in
-    let still : list_all (ltb 0) (take max_path (path ++ more)) ≡ false = ap (list_all (ltb 0)) (take-append-le max_path path more (omega (arith, long))) ∙ all in
+    let still : list_all (ltb 0) (take (max_path + 1) (path ++ more)) ≡ false = ap (list_all (ltb 0)) (take-append-le (max_path + 1) path more (omega (arith, long))) ∙ all in
     rw still e
 
 -- a path that breaks a rule breaks it whatever bytes follow
 test_grown : (path more : List ℕ) (s : Stop) → path_test path ≡ failed_test s → path_test (path ++ more) ≡ failed_test s
-test_grown path more s e = grown_by path more (list_all (ltb 0) (take max_path path)) (leb (length path) max_path) s refl refl e
+test_grown path more s e = grown_by path more (list_all (ltb 0) (take (max_path + 1) path)) (leb (length path) max_path) s refl refl e
 
 abbrev then_read : Result (Unit {0}) Stop → Read → Read
 then_read r next = r >>= λ _. next
@@ -138,9 +138,9 @@ open_stop bytes last false b c is = tt
 
 stop_by : (mark : ℕ) (last : Bool) (bytes : List ℕ) → 0 < length bytes → Split mark bytes → StopsRead last (item_at mark last bytes)
 stop_by mark last bytes some (at_mark path rest whole bare) =
-    subst (StopsRead last) (sym (item_marked mark last path rest bare) ∙ ap (item_at mark last) (sym whole)) (marked_stop path rest last (list_all (ltb 0) (take max_path path)) (leb (length path) max_path) (ltb 0 (length path)))
+    subst (StopsRead last) (sym (item_marked mark last path rest bare) ∙ ap (item_at mark last) (sym whole)) (marked_stop path rest last (list_all (ltb 0) (take (max_path + 1) path)) (leb (length path) max_path) (ltb 0 (length path)))
 stop_by mark last bytes some (no_mark bare) =
-    subst (StopsRead last) (sym (item_open mark last bytes bare)) (open_stop bytes last (list_all (ltb 0) (take max_path bytes)) (leb (length bytes) max_path) (ltb 0 (length bytes)) (lt-ltb 0 (length bytes) some))
+    subst (StopsRead last) (sym (item_open mark last bytes bare)) (open_stop bytes last (list_all (ltb 0) (take (max_path + 1) bytes)) (leb (length bytes) max_path) (ltb 0 (length bytes)) (lt-ltb 0 (length bytes) some))
 
 item_stop : (mark : ℕ) (last : Bool) (bytes : List ℕ) → 0 < length bytes → StopsRead last (item_at mark last bytes)
 item_stop mark last bytes some = stop_by mark last bytes some (split_bytes mark bytes)

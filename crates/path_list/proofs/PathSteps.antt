@@ -3,7 +3,7 @@ use Rattle.std.proofs.Common.{◌≡◌, ◌≢◌, ℕ, ◌+◌, ◌<◌, ◌�
 use Rattle.std.specs.Prelude.{◌&&◌}
 use Rattle.std.specs.List.{list_all}
 use Rattle.std.proofs.lemmas.Bool.{lt-leb, lt-ltb}
-use Rattle.std.proofs.lemmas.List.{take-append-le, take_all}
+use Rattle.std.proofs.lemmas.List.{take_all}
 use Rattle.std.proofs.lemmas.List.Elements.{All-nil, All-push}
 use Rattle.std.proofs.lemmas.List.Folds.{list_all-append}
 use Rattle.std.proofs.lemmas.List.Sums.{list_all-from_AllPass}
@@ -61,20 +61,20 @@ all_plain : (text : List ℕ) → All (λ b. 0 < b) text → list_all (ltb 0) te
 all_plain text plain = list_all-from_AllPass (ltb 0) text (λ k d lt. lt-ltb 0 _ (plain k d lt))
 
 -- one byte more is too long
-long_test : (text : List ℕ) (b : ℕ) → All (λ c. 0 < c) text → max_path ≡ length text → path_test (text ++ b ∷ []) ≡ failed_test (Broken LongPath)
-long_test text b plain full =
-    let front : take max_path (text ++ b ∷ []) ≡ text = take-append-le max_path text (b ∷ []) (omega (arith, full)) ∙ take_all max_path text (omega (arith, full)) in
+long_test : (text : List ℕ) (b : ℕ) → All (λ c. 0 < c) text → 0 < b → max_path ≡ length text → path_test (text ++ b ∷ []) ≡ failed_test (Broken LongPath)
+long_test text b plain some full =
+    let front : take (max_path + 1) (text ++ b ∷ []) ≡ text ++ b ∷ [] = take_all (max_path + 1) (text ++ b ∷ []) (omega (arith, full, length-append text (b ∷ []))) in
     let long : leb (length (text ++ b ∷ [])) max_path ≡ false = lt-leb _ _ (omega (arith, full, length-append text (b ∷ []))) in
-    rw (front, all_plain text plain, long) refl
+    rw (front, all_plain (text ++ b ∷ []) (All-push (λ c. 0 < c) text b plain some), long) refl
 
 and_false : (a : Bool) → (a && false) ≡ false
 and_false true = refl
 and_false false = refl
 
--- a zero byte that would fit
-zero_test : (text : List ℕ) → length text < max_path → path_test (text ++ 0 ∷ []) ≡ failed_test (Broken ZeroChar)
+-- a zero byte that would fit, or that is the first too many
+zero_test : (text : List ℕ) → length text ≤ max_path → path_test (text ++ 0 ∷ []) ≡ failed_test (Broken ZeroChar)
 zero_test text room =
-    let front : take max_path (text ++ 0 ∷ []) ≡ text ++ 0 ∷ [] = take_all max_path (text ++ 0 ∷ []) (omega (arith, room, length-append text (0 ∷ []))) in
+    let front : take (max_path + 1) (text ++ 0 ∷ []) ≡ text ++ 0 ∷ [] = take_all (max_path + 1) (text ++ 0 ∷ []) (omega (arith, room, length-append text (0 ∷ []))) in
     let zero : list_all (ltb 0) (text ++ 0 ∷ []) ≡ false = list_all-append (ltb 0) text (0 ∷ []) ∙ and_false (list_all (ltb 0) text) in
     rw (front, zero) refl
 
@@ -101,19 +101,19 @@ broken_by : (mark : ℕ) (text path : List ℕ) (b : ℕ) (s : Stop) (f f2 : Fee
 broken_by mark text path b s f f2 a c bare e t =
     ap (item_at mark (not (window f a).more)) (window_took f f2 a c (text ++ b ∷ []) t) ∙ stays_open mark (not (window f a).more) (text ++ b ∷ []) (window f2 c).bytes s bare e (split_bytes mark (window f2 c).bytes)
 
-pub path_long : (mark : ℕ) (text path : List ℕ) (b : ℕ) (f f1 f2 : FeedState) (l l1 l2 : Option (List ℕ)) → Part mark text → b ≢ mark → max_path ≡ length text → TookKnown f l f1 l1 text → TookKnown f1 l1 f2 l2 (b ∷ []) → PathKnown mark path f l f2 l2 (Err (Stopped (Broken LongPath)))
-path_long mark text path b f f1 f2 None l1 l2 h other full t u = tt
-path_long mark text path b f f1 f2 (Some a) None l2 h other full t u = absurd t
-path_long mark text path b f f1 f2 (Some a) (Some x) None h other full t u = absurd u
-path_long mark text path b f f1 f2 (Some a) (Some x) (Some c) h other full t u =
-    (broken_by mark text path b (Broken LongPath) f f2 a c (All-push (λ c. c ≢ mark) text b h.bare other) (long_test text b h.plain full) (took_then f f1 f2 (Some a) (Some x) (Some c) text (b ∷ []) t u), refl)
+pub path_long : (mark : ℕ) (text path : List ℕ) (b : ℕ) (f f1 f2 : FeedState) (l l1 l2 : Option (List ℕ)) → Part mark text → b ≢ mark → 0 < b → max_path ≡ length text → TookKnown f l f1 l1 text → TookKnown f1 l1 f2 l2 (b ∷ []) → PathKnown mark path f l f2 l2 (Err (Stopped (Broken LongPath)))
+path_long mark text path b f f1 f2 None l1 l2 h other some full t u = tt
+path_long mark text path b f f1 f2 (Some a) None l2 h other some full t u = absurd t
+path_long mark text path b f f1 f2 (Some a) (Some x) None h other some full t u = absurd u
+path_long mark text path b f f1 f2 (Some a) (Some x) (Some c) h other some full t u =
+    (broken_by mark text path b (Broken LongPath) f f2 a c (All-push (λ c. c ≢ mark) text b h.bare other) (long_test text b h.plain some full) (took_then f f1 f2 (Some a) (Some x) (Some c) text (b ∷ []) t u), refl)
 
-pub path_zero : (mark : ℕ) (text path : List ℕ) (f f1 f2 : FeedState) (l l1 l2 : Option (List ℕ)) → Part mark text → 0 ≢ mark → length text < max_path → TookKnown f l f1 l1 text → TookKnown f1 l1 f2 l2 (0 ∷ []) → PathKnown mark path f l f2 l2 (Err (Stopped (Broken ZeroChar)))
-path_zero mark text path f f1 f2 None l1 l2 h other room t u = tt
-path_zero mark text path f f1 f2 (Some a) None l2 h other room t u = absurd t
-path_zero mark text path f f1 f2 (Some a) (Some x) None h other room t u = absurd u
-path_zero mark text path f f1 f2 (Some a) (Some x) (Some c) h other room t u =
-    (broken_by mark text path 0 (Broken ZeroChar) f f2 a c (All-push (λ c. c ≢ mark) text 0 h.bare other) (zero_test text room) (took_then f f1 f2 (Some a) (Some x) (Some c) text (0 ∷ []) t u), refl)
+pub path_zero : (mark : ℕ) (text path : List ℕ) (f f1 f2 : FeedState) (l l1 l2 : Option (List ℕ)) → Part mark text → 0 ≢ mark → TookKnown f l f1 l1 text → TookKnown f1 l1 f2 l2 (0 ∷ []) → PathKnown mark path f l f2 l2 (Err (Stopped (Broken ZeroChar)))
+path_zero mark text path f f1 f2 None l1 l2 h other t u = tt
+path_zero mark text path f f1 f2 (Some a) None l2 h other t u = absurd t
+path_zero mark text path f f1 f2 (Some a) (Some x) None h other t u = absurd u
+path_zero mark text path f f1 f2 (Some a) (Some x) (Some c) h other t u =
+    (broken_by mark text path 0 (Broken ZeroChar) f f2 a c (All-push (λ c. c ≢ mark) text 0 h.bare other) (zero_test text h.fits) (took_then f f1 f2 (Some a) (Some x) (Some c) text (0 ∷ []) t u), refl)
 
 -- the file ended behind a path
 pub path_last : (mark : ℕ) (text : List ℕ) (f f1 f2 : FeedState) (l l1 l2 : Option (List ℕ)) → TookKnown f l f1 l1 text → TookKnown f1 l1 f2 l2 [] → f2.held ≡ [] → f2.ended ≡ true → f2.offset < limit → PathKnown mark text f l f2 l2 (Ok true)

@@ -1,6 +1,6 @@
 -- The items of a plain list of paths: each path with the mark that ends it, a newline or a zero byte. The last path of a
 -- file may lack its mark. Whether it has one is part of the item, so that each item has one spelling.
-use Rattle.std.specs.Prelude.{◌≡◌, ◌≢◌, ℕ, Bool, true, false, List, [], ◌∷◌, ◌++◌, length, take, Some, Result, Ok, Err, nat_lt, nat_le, ◌==◌, ◌&&◌, if◌then◌else◌, All}
+use Rattle.std.specs.Prelude.{◌≡◌, ◌≢◌, ℕ, ◌+◌, Bool, true, false, List, [], ◌∷◌, ◌++◌, length, take, Some, Result, Ok, Err, nat_lt, nat_le, ◌==◌, ◌&&◌, if◌then◌else◌, All}
 use Rattle.std.specs.List.{before_first, after_first, list_all}
 use Rattle.byte_feed.specs.declared.damage.DamageCause.TheVariants.{Cut, LongPath, EmptyPath, ZeroChar}
 use Rattle.byte_feed.specs.declared.damage.Stop.{Stop}
@@ -44,10 +44,10 @@ allowed mark (Unmarked path) last rest = IsListed mark path × (last ≡ true) �
 abbrev pub is_mark : ℕ → ℕ → Bool
 is_mark mark b = b == mark
 
--- None of its first 4,096 bytes is zero, and it has no more.
+-- None of its first 4,097 bytes is zero, and it has at most 4,096. So a zero byte is told before the length.
 abbrev pub path_test : List ℕ → Result (Unit {0}) Stop
 path_test path = do
-  plain ← demand (list_all (nat_lt 0) (take max_path path)) ZeroChar
+  plain ← demand (list_all (nat_lt 0) (take (max_path + 1) path)) ZeroChar
   demand (nat_le (length path) max_path) LongPath
 
 -- a path whose mark stands before the rest

@@ -102,11 +102,11 @@ fn read_long_path<S: Source>(
             }
             return Ok(true);
         }
-        let Ok(()) = path.push_byte(byte) else {
-            return Err(Break::Stopped(Stop::Broken(DamageCause::LongPath)));
-        };
         if byte == 0 {
             return Err(Break::Stopped(Stop::Broken(DamageCause::ZeroChar)));
         }
+        let Ok(()) = path.push_byte(byte) else {
+            return Err(Break::Stopped(Stop::Broken(DamageCause::LongPath)));
+        };
     }
 }

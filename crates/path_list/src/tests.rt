@@ -103,7 +103,8 @@ fn reads_the_longest_paths(rt: HostRuntime) -> Result<(), AllocError> {
         ),
         (4096, b"a", (0, 0, damage(0, DamageCause::LongPath))),
         (4096, b"a\n", (0, 0, damage(0, DamageCause::LongPath))),
-        (4096, b"\0\n", (0, 0, damage(0, DamageCause::LongPath))),
+        (4096, b"\0\n", (0, 0, damage(0, DamageCause::ZeroChar))),
+        (4097, b"\0\n", (0, 0, damage(0, DamageCause::LongPath))),
         (4095, b"\0\n", (0, 0, damage(0, DamageCause::ZeroChar))),
         (4000, b"\n/c", (2, 4002, Ok(()))),
     ] {

@@ -33,7 +33,7 @@ full n P most fits not =
 pub returns-in_default-clause-path : goal.returns-in_default-clause-path
 returns-in_default-clause-path g c =
     let took = rw c.in-Ok-Some.field-0-is at c.in-Ok-Some.ensures.took in
-    path_long c.args.mark c.bytes.path _ c.in-Ok-Some.byte _ _ _ _ _ _ c.bytes.invariant.part c.if-byte-mark.false
+    path_long c.args.mark c.bytes.path _ c.in-Ok-Some.byte _ _ _ _ _ _ c.bytes.invariant.part c.if-byte-mark.false (omega (arith, c.if-byte-eq0.false))
     (full (length c.bytes.path) _ c.bytes.invariant.part.fits c.in_default.ensures.variant.1 (λ is. absurd cc)) c.bytes.invariant.took took
 
 pub returns-then-byte-eq0-clause-path : goal.returns-then-byte-eq0-clause-path
@@ -41,7 +41,7 @@ returns-then-byte-eq0-clause-path g c =
     let took = rw c.in-Ok-Some.field-0-is at c.in-Ok-Some.ensures.took in
     let zero = rw c.if-byte-eq0.true at took in
     let other = rw c.if-byte-eq0.true at c.if-byte-mark.false in
-    path_zero c.args.mark c.bytes.path _ _ _ _ _ _ _ c.bytes.invariant.part other (omega (arith, c.in-Ok.ensures.variant.0 refl)) c.bytes.invariant.took zero
+    path_zero c.args.mark c.bytes.path _ _ _ _ _ _ _ c.bytes.invariant.part other c.bytes.invariant.took zero
 
 pub bytes-preserved : goal.bytes-preserved
 bytes-preserved g c =
