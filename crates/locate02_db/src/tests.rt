@@ -3,7 +3,7 @@ ghost use Rattle.std.specs.Prelude.{◌<◌};
 
 use crate::{Reader02, Writer02};
 use byte_feed::{Damage, DamageCause, DbFault, Feed, PathStream};
-use loc_outside::{ByteByByte, MemFiles, MemSink, Reader, SliceSource, Source};
+use loc_outside::{ByteByByte, Failed, MemFiles, MemSink, Reader, SliceSource, Source};
 use path_order::PathBuf;
 use std::alloc::{AllocError, Global};
 
