@@ -12,7 +12,7 @@ use Rattle.loc_outside.specs.Outside.{AppendsPart}
 use Rattle.loc_outside.proofs.PartTaken.{part_first, part_second, part_none}
 use Rattle.loc_outside.specs.Trees.{Dir, Dirs}
 use Rattle.tree_scan.specs.Admitted.{admitted, paths_in}
-use Rattle.tree_scan.specs.Blocks.{block, entries_of, header, lines, pieces, time_of, scan_pieces, scan_text, echo_text}
+use Rattle.tree_scan.specs.Blocks.{block, entries_of, header, lines, pieces, time_of, scan_pieces}
 use Rattle.tree_scan.specs.Plan.{Plan}
 use Rattle.tree_scan.specs.Reach.{is_open, is_tried, tried, reached}
 use Rattle.tree_scan.specs.Records.{Record, Honest, Relied, bears, is_vouched, unvouched}

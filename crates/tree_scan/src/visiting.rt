@@ -9,7 +9,7 @@ ghost use Rattle.tree_scan.specs.Plans.{plan_of};
 ghost use Rattle.tree_scan.specs.Records.{answers_all, known, Relied, is_vouched};
 ghost use Rattle.tree_scan.specs.Scans.{Failures};
 ghost use Rattle.tree_scan.specs.Stops.{taken};
-ghost use Rattle.tree_scan.specs.Walks.{LeavesVoucher, standing, Passes, Breaks, Counted, AddsChildren, is_whole_after};
+ghost use Rattle.tree_scan.specs.Walks.{LeavesVoucher, standing, AllKept, Bounded, Breaks, Costs, Counted, Ended, Finds, Passes, Progresses, Wide};
 
 use crate::children::push_children;
 use crate::finding::find_names;
@@ -39,32 +39,20 @@ pub(crate) fn visit<T: Tree, V: Voucher, D: Sink, P: Sink>(
     requires sound { IsTrue (V.sound voucher.old) }
     requires normal { IsTrue (is_normal path.old) }
     requires unpruned { (plan_of rules.now).pruned path.old ≡ false }
-    ensures no_missing { IsErrOf result ScanFault.RootMissing → ⊥ }
     ensures shown { OnOk result ((dirs : Dirs) (dir : Dir) → T.dirs tree.old ≡ Some dirs → get dirs path.old ≡ Some dir → time ≡ time_of dir.times → Relied (V.records voucher.old) ((plan_of rules.now).device_of path.old) path.old dir → Passes dirs (plan_of rules.now) now path.old (standing (D.taken sink.old) (P.taken echo.old) progress.old) (standing (D.taken sink.new) (P.taken echo.new) progress.new)) }
     ensures breaks { OnErr result ((dirs : Dirs) (dir : Dir) → T.dirs tree.old ≡ Some dirs → get dirs path.old ≡ Some dir → time ≡ time_of dir.times → Relied (V.records voucher.old) ((plan_of rules.now).device_of path.old) path.old dir → Breaks dirs (plan_of rules.now) now path.old (taken (D.taken sink.old) (P.taken echo.old)) (taken (D.taken sink.new) (P.taken echo.new))) }
+    ensures ended { IfErr result (λ fault. Ended fault (plan_of rules.now) path.old (taken (D.taken sink.old) (P.taken echo.old)) (taken (D.taken sink.new) (P.taken echo.new)) (limits.now.directories ≤ progress.old.tried) (Wide (V.records voucher.old) (answers_all (V.records voucher.old) (V.ordered voucher.old) (V.unbroken voucher.new)) limits.now.names (T.dirs tree.old) path.old time ((plan_of rules.now).device_of path.old))) }
+    ensures progress { OnOk result (Progresses path.old progress.old progress.new) }
     ensures tried { OnOk result (progress.new.tried ≡ progress.old.tried + 1) }
-    ensures once { progress.new.tried ≤ progress.old.tried + 1 }
-    ensures more { OnOk result (length progress.new.pending ≤ length progress.old.pending + 16777216) }
-    ensures many { IsErrOf result ScanFault.TooManyDirectories → limits.now.directories ≤ progress.old.tried }
-    ensures kept_limit { OnOk result (IsSome (V.records voucher.old) → (dirs : Dirs) (dir : Dir) → T.dirs tree.old ≡ Some dirs → get dirs path.old ≡ Some dir → is_vouched (known (V.records voucher.old)) path.old time ((plan_of rules.now).device_of path.old) ≡ false → dir.hidden ≡ false → length (entries dir.names) ≤ limits.now.names) }
-    ensures listed { IsErrOf result ScanFault.TooManyNames → IsTrue (answers_all (V.records voucher.old) (V.ordered voucher.old) (V.unbroken voucher.new)) → is_vouched (known (V.records voucher.old)) path.old time ((plan_of rules.now).device_of path.old) ≡ false }
-    ensures many_names { IsErrOf result ScanFault.TooManyNames → (dirs : Dirs) (dir : Dir) → T.dirs tree.old ≡ Some dirs → get dirs path.old ≡ Some dir → (dir.hidden ≡ false) × (limits.now.names < length (entries dir.names)) }
-    ensures opened { IsTrue (answers_all (V.records voucher.old) (V.ordered voucher.old) (V.unbroken voucher.new)) → T.openings tree.new ≤ T.openings tree.old + (if is_vouched (known (V.records voucher.old)) path.old time ((plan_of rules.now).device_of path.old) then 0 else 1) }
-    ensures exact { OnOk result (IsTrue (answers_all (V.records voucher.old) (V.ordered voucher.old) (V.unbroken voucher.new)) → T.openings tree.new ≡ raised (T.openings tree.old) (if is_vouched (known (V.records voucher.old)) path.old time ((plan_of rules.now).device_of path.old) then 0 else 1)) }
+    ensures costs { Costs 1 (if is_vouched (known (V.records voucher.old)) path.old time ((plan_of rules.now).device_of path.old) then 0 else 1) (answers_all (V.records voucher.old) (V.ordered voucher.old) (V.unbroken voucher.new)) progress.old.tried progress.new.tried (T.openings tree.old) (T.openings tree.new) }
+    ensures bounded { Bounded limits.now.directories progress.old.tried progress.new.tried (T.openings tree.old) (T.openings tree.new) }
+    ensures found { OnOk result (Finds (V.records voucher.old) (answers_all (V.records voucher.old) (V.ordered voucher.old) (V.unbroken voucher.new)) limits.now.names (T.dirs tree.old) path.old time ((plan_of rules.now).device_of path.old) (T.openings tree.old) (T.openings tree.new)) }
     ensures stats { T.stats tree.new ≡ T.stats tree.old }
-    ensures whole { IfErr result (λ e. IsTrue (is_whole_after e) → (D.taken sink.new ≡ D.taken sink.old) × (P.taken echo.new ≡ P.taken echo.old)) }
     ensures quiet { (plan_of rules.now).verbose ≡ false → echo.new ≡ echo.old }
-    ensures within { progress.new.tried ≤ limits.now.directories }
-    ensures counted { OnOk result (Counted progress.new) }
-    ensures adds { OnOk result (AddsChildren path.old progress.old.pending progress.new.pending) }
     ensures leaves { LeavesVoucher path.old (V.records voucher.old) (V.ordered voucher.old) (V.unbroken voucher.old) (V.records voucher.new) (V.ordered voucher.new) (V.unbroken voucher.new) }
     ensures sound { OnOk result (IsTrue (V.sound voucher.new)) }
-    ensures voucher_kept { V.kept voucher.old voucher.new }
-    ensures openings { T.openings tree.new + progress.old.tried ≤ T.openings tree.old + progress.new.tried }
     ensures failures { Failures (plan_of rules.now).verbose (IsErrOf result ScanFault.TreeFault) (IsErrOf result ScanFault.WriteFault) (T.faults tree.old) (T.faults tree.new) (D.faults sink.old) (D.faults sink.new) (P.faults echo.old) (P.faults echo.new) }
-    ensures kept { T.kept tree.old tree.new }
-    ensures sink_kept { D.kept sink.old sink.new }
-    ensures echo_kept { P.kept echo.old echo.new }
+    ensures kept { AllKept (T.kept tree.old tree.new) (V.kept voucher.old voucher.new) (D.kept sink.old sink.new) (P.kept echo.old echo.new) }
 {
     if progress.tried >= limits.directories {
         return Err(ScanFault::TooManyDirectories);

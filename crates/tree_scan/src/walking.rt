@@ -11,7 +11,7 @@ ghost use Rattle.tree_scan.specs.Reach.{is_open, is_tried};
 ghost use Rattle.tree_scan.specs.Steps.{here, weight};
 ghost use Rattle.tree_scan.specs.Scans.{Failures};
 ghost use Rattle.tree_scan.specs.Stops.{NamesMore, Narrow, taken};
-ghost use Rattle.tree_scan.specs.Walks.{LeavesVoucher, standing, Passes, Breaks, Counted, AddsChildren, is_whole_after, opens};
+ghost use Rattle.tree_scan.specs.Walks.{LeavesVoucher, standing, AllKept, Bounded, Breaks, Costs, Counted, Ended, FindsAt, Passes, Progresses, WideAt, opens};
 
 use crate::progress::Progress;
 use crate::visiting::visit;
@@ -38,33 +38,19 @@ pub(crate) fn come<T: Tree, V: Voucher, D: Sink, P: Sink>(
     requires counted { Counted progress.old }
     requires sound { IsTrue (V.sound voucher.old) }
     requires normal { IsTrue (is_normal path.old) }
-    ensures no_missing { IsErrOf result ScanFault.RootMissing → ⊥ }
     ensures done { OnOk result ((dirs : Dirs) → T.dirs tree.old ≡ Some dirs → (there : Dir) → get dirs path.old ≡ Some there → time ≡ time_of there.times → ((dir : Dir) → get dirs path.old ≡ Some dir → (plan_of rules.now).pruned path.old ≡ false → Relied (V.records voucher.old) ((plan_of rules.now).device_of path.old) path.old dir) → Passes dirs (plan_of rules.now) now path.old (standing (D.taken sink.old) (P.taken echo.old) progress.old) (standing (D.taken sink.new) (P.taken echo.new) progress.new)) }
     ensures breaks { OnErr result ((dirs : Dirs) → T.dirs tree.old ≡ Some dirs → (there : Dir) → get dirs path.old ≡ Some there → time ≡ time_of there.times → ((dir : Dir) → get dirs path.old ≡ Some dir → (plan_of rules.now).pruned path.old ≡ false → Relied (V.records voucher.old) ((plan_of rules.now).device_of path.old) path.old dir) → Breaks dirs (plan_of rules.now) now path.old (taken (D.taken sink.old) (P.taken echo.old)) (taken (D.taken sink.new) (P.taken echo.new))) }
-    ensures seen { (dirs : Dirs) → T.dirs tree.old ≡ Some dirs → (there : Dir) → get dirs path.old ≡ Some there → time ≡ time_of there.times → progress.new.tried ≤ progress.old.tried + length (here dirs (is_tried (plan_of rules.now).pruned) path.old) }
-    ensures many { IsErrOf result ScanFault.TooManyDirectories → (dirs : Dirs) → T.dirs tree.old ≡ Some dirs → (there : Dir) → get dirs path.old ≡ Some there → time ≡ time_of there.times → limits.now.directories < progress.old.tried + length (here dirs (is_tried (plan_of rules.now).pruned) path.old) }
-    ensures kept_limit { OnOk result (IsSome (V.records voucher.old) → (dirs : Dirs) → T.dirs tree.old ≡ Some dirs → (there : Dir) → get dirs path.old ≡ Some there → time ≡ time_of there.times → Narrow limits.now.names (unvouched (known (V.records voucher.old)) (plan_of rules.now) (here dirs (is_open (plan_of rules.now).pruned) path.old))) }
-    ensures listed { IsErrOf result ScanFault.TooManyNames → (dirs : Dirs) → T.dirs tree.old ≡ Some dirs → (there : Dir) → get dirs path.old ≡ Some there → time ≡ time_of there.times → IsTrue (answers_all (V.records voucher.old) (V.ordered voucher.old) (V.unbroken voucher.new)) → is_vouched (known (V.records voucher.old)) path.old (time_of there.times) ((plan_of rules.now).device_of path.old) ≡ false }
-    ensures unpruned { OnErr result ((plan_of rules.now).pruned path.old ≡ false) }
-    ensures many_names { IsErrOf result ScanFault.TooManyNames → (dirs : Dirs) → T.dirs tree.old ≡ Some dirs → (there : Dir) → get dirs path.old ≡ Some there → time ≡ time_of there.times → NamesMore dirs (plan_of rules.now).pruned limits.now.names path.old }
-    ensures more { OnOk result (length progress.new.pending + 16777216 * progress.old.tried ≤ length progress.old.pending + 16777216 * progress.new.tried) }
-    ensures rises { OnOk result (progress.old.tried ≤ progress.new.tried) }
-    ensures opened { (dirs : Dirs) → T.dirs tree.old ≡ Some dirs → (there : Dir) → get dirs path.old ≡ Some there → time ≡ time_of there.times → IsTrue (answers_all (V.records voucher.old) (V.ordered voucher.old) (V.unbroken voucher.new)) → T.openings tree.new ≤ T.openings tree.old + opens (known (V.records voucher.old)) dirs (plan_of rules.now) path.old }
-    ensures exact { OnOk result ((dirs : Dirs) → T.dirs tree.old ≡ Some dirs → (there : Dir) → get dirs path.old ≡ Some there → time ≡ time_of there.times → IsTrue (answers_all (V.records voucher.old) (V.ordered voucher.old) (V.unbroken voucher.new)) → T.openings tree.new ≡ raised (T.openings tree.old) (opens (known (V.records voucher.old)) dirs (plan_of rules.now) path.old)) }
+    ensures ended { IfErr result (λ fault. Ended fault (plan_of rules.now) path.old (taken (D.taken sink.old) (P.taken echo.old)) (taken (D.taken sink.new) (P.taken echo.new)) ((dirs : Dirs) → T.dirs tree.old ≡ Some dirs → (there : Dir) → get dirs path.old ≡ Some there → time ≡ time_of there.times → limits.now.directories < progress.old.tried + length (here dirs (is_tried (plan_of rules.now).pruned) path.old)) ((dirs : Dirs) → T.dirs tree.old ≡ Some dirs → (there : Dir) → get dirs path.old ≡ Some there → time ≡ time_of there.times → WideAt (V.records voucher.old) (answers_all (V.records voucher.old) (V.ordered voucher.old) (V.unbroken voucher.new)) limits.now.names dirs (plan_of rules.now) path.old)) }
+    ensures progress { OnOk result (Progresses path.old progress.old progress.new) }
+    ensures costs { (dirs : Dirs) → T.dirs tree.old ≡ Some dirs → (there : Dir) → get dirs path.old ≡ Some there → time ≡ time_of there.times → Costs (length (here dirs (is_tried (plan_of rules.now).pruned) path.old)) (opens (known (V.records voucher.old)) dirs (plan_of rules.now) path.old) (answers_all (V.records voucher.old) (V.ordered voucher.old) (V.unbroken voucher.new)) progress.old.tried progress.new.tried (T.openings tree.old) (T.openings tree.new) }
+    ensures bounded { Bounded limits.now.directories progress.old.tried progress.new.tried (T.openings tree.old) (T.openings tree.new) }
+    ensures found { OnOk result ((dirs : Dirs) → T.dirs tree.old ≡ Some dirs → (there : Dir) → get dirs path.old ≡ Some there → time ≡ time_of there.times → FindsAt (V.records voucher.old) (answers_all (V.records voucher.old) (V.ordered voucher.old) (V.unbroken voucher.new)) limits.now.names dirs (plan_of rules.now) path.old (T.openings tree.old) (T.openings tree.new)) }
     ensures stats { T.stats tree.new ≡ T.stats tree.old }
-    ensures whole { IfErr result (λ e. IsTrue (is_whole_after e) → (D.taken sink.new ≡ D.taken sink.old) × (P.taken echo.new ≡ P.taken echo.old)) }
     ensures quiet { (plan_of rules.now).verbose ≡ false → echo.new ≡ echo.old }
-    ensures within { progress.new.tried ≤ limits.now.directories }
-    ensures counted { OnOk result (Counted progress.new) }
-    ensures adds { OnOk result (AddsChildren path.old progress.old.pending progress.new.pending) }
     ensures leaves { LeavesVoucher path.old (V.records voucher.old) (V.ordered voucher.old) (V.unbroken voucher.old) (V.records voucher.new) (V.ordered voucher.new) (V.unbroken voucher.new) }
     ensures sound { OnOk result (IsTrue (V.sound voucher.new)) }
-    ensures voucher_kept { V.kept voucher.old voucher.new }
-    ensures openings { T.openings tree.new + progress.old.tried ≤ T.openings tree.old + progress.new.tried }
     ensures failures { Failures (plan_of rules.now).verbose (IsErrOf result ScanFault.TreeFault) (IsErrOf result ScanFault.WriteFault) (T.faults tree.old) (T.faults tree.new) (D.faults sink.old) (D.faults sink.new) (P.faults echo.old) (P.faults echo.new) }
-    ensures kept { T.kept tree.old tree.new }
-    ensures sink_kept { D.kept sink.old sink.new }
-    ensures echo_kept { P.kept echo.old echo.new }
+    ensures kept { AllKept (T.kept tree.old tree.new) (V.kept voucher.old voucher.new) (D.kept sink.old sink.new) (P.kept echo.old echo.new) }
 {
     if rules.prunes(path.bytes()) {
         return Ok(());
@@ -93,33 +79,19 @@ pub(crate) fn step<T: Tree, V: Voucher, D: Sink, P: Sink>(
     requires counted { Counted progress.old }
     requires sound { IsTrue (V.sound voucher.old) }
     requires normal { IsTrue (is_normal path.old) }
-    ensures no_missing { IsErrOf result ScanFault.RootMissing → ⊥ }
     ensures done { OnOk result ((dirs : Dirs) → T.dirs tree.old ≡ Some dirs → ((dir : Dir) → get dirs path.old ≡ Some dir → (plan_of rules.now).pruned path.old ≡ false → Relied (V.records voucher.old) ((plan_of rules.now).device_of path.old) path.old dir) → Passes dirs (plan_of rules.now) now path.old (standing (D.taken sink.old) (P.taken echo.old) progress.old) (standing (D.taken sink.new) (P.taken echo.new) progress.new)) }
     ensures breaks { OnErr result ((dirs : Dirs) → T.dirs tree.old ≡ Some dirs → ((dir : Dir) → get dirs path.old ≡ Some dir → (plan_of rules.now).pruned path.old ≡ false → Relied (V.records voucher.old) ((plan_of rules.now).device_of path.old) path.old dir) → Breaks dirs (plan_of rules.now) now path.old (taken (D.taken sink.old) (P.taken echo.old)) (taken (D.taken sink.new) (P.taken echo.new))) }
-    ensures seen { (dirs : Dirs) → T.dirs tree.old ≡ Some dirs → progress.new.tried ≤ progress.old.tried + length (here dirs (is_tried (plan_of rules.now).pruned) path.old) }
-    ensures many { IsErrOf result ScanFault.TooManyDirectories → (dirs : Dirs) → T.dirs tree.old ≡ Some dirs → limits.now.directories < progress.old.tried + length (here dirs (is_tried (plan_of rules.now).pruned) path.old) }
-    ensures kept_limit { OnOk result (IsSome (V.records voucher.old) → (dirs : Dirs) → T.dirs tree.old ≡ Some dirs → Narrow limits.now.names (unvouched (known (V.records voucher.old)) (plan_of rules.now) (here dirs (is_open (plan_of rules.now).pruned) path.old))) }
-    ensures listed { IsErrOf result ScanFault.TooManyNames → (dirs : Dirs) (dir : Dir) → T.dirs tree.old ≡ Some dirs → get dirs path.old ≡ Some dir → IsTrue (answers_all (V.records voucher.old) (V.ordered voucher.old) (V.unbroken voucher.new)) → is_vouched (known (V.records voucher.old)) path.old (time_of dir.times) ((plan_of rules.now).device_of path.old) ≡ false }
-    ensures unpruned { OnErr result ((plan_of rules.now).pruned path.old ≡ false) }
-    ensures many_names { IsErrOf result ScanFault.TooManyNames → (dirs : Dirs) → T.dirs tree.old ≡ Some dirs → NamesMore dirs (plan_of rules.now).pruned limits.now.names path.old }
-    ensures more { OnOk result (length progress.new.pending + 16777216 * progress.old.tried ≤ length progress.old.pending + 16777216 * progress.new.tried) }
-    ensures rises { OnOk result (progress.old.tried ≤ progress.new.tried) }
-    ensures opened { (dirs : Dirs) → T.dirs tree.old ≡ Some dirs → IsTrue (answers_all (V.records voucher.old) (V.ordered voucher.old) (V.unbroken voucher.new)) → T.openings tree.new ≤ T.openings tree.old + opens (known (V.records voucher.old)) dirs (plan_of rules.now) path.old }
-    ensures exact { OnOk result ((dirs : Dirs) → T.dirs tree.old ≡ Some dirs → IsTrue (answers_all (V.records voucher.old) (V.ordered voucher.old) (V.unbroken voucher.new)) → T.openings tree.new ≡ raised (T.openings tree.old) (opens (known (V.records voucher.old)) dirs (plan_of rules.now) path.old)) }
+    ensures ended { IfErr result (λ fault. Ended fault (plan_of rules.now) path.old (taken (D.taken sink.old) (P.taken echo.old)) (taken (D.taken sink.new) (P.taken echo.new)) ((dirs : Dirs) → T.dirs tree.old ≡ Some dirs → limits.now.directories < progress.old.tried + length (here dirs (is_tried (plan_of rules.now).pruned) path.old)) ((dirs : Dirs) → T.dirs tree.old ≡ Some dirs → WideAt (V.records voucher.old) (answers_all (V.records voucher.old) (V.ordered voucher.old) (V.unbroken voucher.new)) limits.now.names dirs (plan_of rules.now) path.old)) }
+    ensures progress { OnOk result (Progresses path.old progress.old progress.new) }
+    ensures costs { (dirs : Dirs) → T.dirs tree.old ≡ Some dirs → Costs (length (here dirs (is_tried (plan_of rules.now).pruned) path.old)) (opens (known (V.records voucher.old)) dirs (plan_of rules.now) path.old) (answers_all (V.records voucher.old) (V.ordered voucher.old) (V.unbroken voucher.new)) progress.old.tried progress.new.tried (T.openings tree.old) (T.openings tree.new) }
+    ensures bounded { Bounded limits.now.directories progress.old.tried progress.new.tried (T.openings tree.old) (T.openings tree.new) }
+    ensures found { OnOk result ((dirs : Dirs) → T.dirs tree.old ≡ Some dirs → FindsAt (V.records voucher.old) (answers_all (V.records voucher.old) (V.ordered voucher.old) (V.unbroken voucher.new)) limits.now.names dirs (plan_of rules.now) path.old (T.openings tree.old) (T.openings tree.new)) }
     ensures stats { T.stats tree.new ≤ T.stats tree.old + weight (plan_of rules.now).pruned (T.priced tree.old) (path.old ∷ []) }
-    ensures whole { IfErr result (λ e. IsTrue (is_whole_after e) → (D.taken sink.new ≡ D.taken sink.old) × (P.taken echo.new ≡ P.taken echo.old)) }
     ensures quiet { (plan_of rules.now).verbose ≡ false → echo.new ≡ echo.old }
-    ensures within { progress.new.tried ≤ limits.now.directories }
-    ensures counted { OnOk result (Counted progress.new) }
-    ensures adds { OnOk result (AddsChildren path.old progress.old.pending progress.new.pending) }
     ensures leaves { LeavesVoucher path.old (V.records voucher.old) (V.ordered voucher.old) (V.unbroken voucher.old) (V.records voucher.new) (V.ordered voucher.new) (V.unbroken voucher.new) }
     ensures sound { OnOk result (IsTrue (V.sound voucher.new)) }
-    ensures voucher_kept { V.kept voucher.old voucher.new }
-    ensures openings { T.openings tree.new + progress.old.tried ≤ T.openings tree.old + progress.new.tried }
     ensures failures { Failures (plan_of rules.now).verbose (IsErrOf result ScanFault.TreeFault) (IsErrOf result ScanFault.WriteFault) (T.faults tree.old) (T.faults tree.new) (D.faults sink.old) (D.faults sink.new) (P.faults echo.old) (P.faults echo.new) }
-    ensures kept { T.kept tree.old tree.new }
-    ensures sink_kept { D.kept sink.old sink.new }
-    ensures echo_kept { P.kept echo.old echo.new }
+    ensures kept { AllKept (T.kept tree.old tree.new) (V.kept voucher.old voucher.new) (D.kept sink.old sink.new) (P.kept echo.old echo.new) }
 {
     if rules.prunes(path.bytes()) {
         return Ok(());
