@@ -12,7 +12,7 @@ use Rattle.tree_scan.proofs.WrittenNames.{if_err, when_err}
 use Rattle.tree_scan.proofs.TreeAnswers.{stat_found, nothing_pruned}
 use Rattle.tree_scan.proofs.Asking.{leaves_same}
 use Rattle.tree_scan.proofs.Visits.{narrow_none, narrow_one, same_time, passes_nothing, breaks_none, no_children, raised_nothing, here_once, opens_one, opens_none, stat_weight}
-use Rattle.tree_scan.proofs.walking.step.Goals as goal
+use Rattle.tree_scan.proofs.walk.step.Goals as goal
 
 pub returns-then-prunes-clause-done : goal.returns-then-prunes-clause-done
 returns-then-prunes-clause-done g c = λ dirs told relied.

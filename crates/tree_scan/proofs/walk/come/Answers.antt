@@ -12,7 +12,7 @@ use Rattle.tree_scan.proofs.WrittenNames.{if_err, when_err}
 use Rattle.tree_scan.proofs.TreeAnswers.{nothing_pruned}
 use Rattle.tree_scan.proofs.Asking.{leaves_same}
 use Rattle.tree_scan.proofs.Visits.{narrow_none, narrow_one, same_time, passes_nothing, no_children, raised_nothing, here_once, opens_one, opens_none}
-use Rattle.tree_scan.proofs.walking.come.Goals as goal
+use Rattle.tree_scan.proofs.walk.come.Goals as goal
 
 pub returns-then-prunes-clause-done : goal.returns-then-prunes-clause-done
 returns-then-prunes-clause-done g c = λ dirs told there found time relied.

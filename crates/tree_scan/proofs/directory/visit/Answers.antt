@@ -12,7 +12,7 @@ use Rattle.tree_scan.specs.Records.{Relied}
 use Rattle.tree_scan.proofs.WrittenNames.{if_err, when_err}
 use Rattle.tree_scan.proofs.TreeAnswers.{seen_true, seen_false, pushed_short}
 use Rattle.tree_scan.proofs.Visits.{passes_shown, passes_hidden, breaks_shown, breaks_none}
-use Rattle.tree_scan.proofs.visiting.visit.Goals as goal
+use Rattle.tree_scan.proofs.directory.visit.Goals as goal
 
 pub returns-then-not-found-clause-shown : goal.returns-then-not-found-clause-shown
 returns-then-not-found-clause-shown g c = λ dirs dir told found time relied.

@@ -13,8 +13,8 @@ ghost use Rattle.tree_scan.specs.Scans.{Failures};
 ghost use Rattle.tree_scan.specs.Stops.{NamesMore, Narrow, taken};
 ghost use Rattle.tree_scan.specs.Walks.{LeavesVoucher, standing, AllKept, Bounded, Breaks, Costs, Counted, Ended, FindsAt, Passes, Progresses, WideAt, opens};
 
+use crate::directory::visit;
 use crate::progress::Progress;
-use crate::visiting::visit;
 use crate::{Limits, Rules, ScanFault, Voucher};
 use loc_outside::{Sink, Tree};
 use path_order::{NameList, PathBuf, Stamp, later};
