@@ -72,8 +72,8 @@ is_whole_after TooManyNames = true
 is_whole_after TooManyDirectories = true
 is_whole_after OutOfMemory = true
 
--- What a walk's progress comes to: at most 16,777,216 more paths are pending for each directory that was tried, those that
--- this one names first, and the counts keep in their bounds.
+-- How a directory changes the progress: those that it names are pending, before the others, at most 16,777,216 more for
+-- each that was tried; and the counts keep in their bounds.
 pub record Progresses (path : List ℕ) (old new : Progress) : Type 0 where
   pub more : length new.pending + 16777216 * old.tried ≤ length old.pending + 16777216 * new.tried
   pub rises : old.tried ≤ new.tried
@@ -85,13 +85,13 @@ pub record Costs (tries opens : ℕ) (all : Bool) (tried tried' openings opening
   pub seen : tried' ≤ tried + tries
   pub opened : IsTrue all → openings' ≤ openings + opens
 
--- No more are tried than the limit, and none is opened that isn't tried.
+-- No more are tried than the limit, and no more opened than tried.
 pub record Bounded (limit tried tried' openings openings' : ℕ) : Type 0 where
   pub within : tried' ≤ limit
   pub openings_tried : openings' + tried ≤ openings + tried'
 
 -- A directory's names were found: where the voucher answered from all of its records, it was opened if none vouches for
--- it, and else not; where it was opened, it has no more names than the limit.
+-- it, and else not; where none of known records vouches for it and it shows its names, they are no more than the limit.
 pub record Finds (records : Option (List Record)) (all : Bool) (limit : ℕ) (told : Option Dirs) (path : List ℕ) (time : Moment) (device openings openings' : ℕ) : Type 0 where
   pub exact : IsTrue all → openings' ≡ raised openings (if is_vouched (known records) path time device then 0 else 1)
   pub kept_limit : IsSome records → (dirs : Dirs) (dir : Dir) → told ≡ Some dirs → get dirs path ≡ Some dir → is_vouched (known records) path time device ≡ false → dir.hidden ≡ false → length (entries dir.names) ≤ limit
@@ -111,8 +111,8 @@ pub record WideAt (records : Option (List Record)) (all : Bool) (limit : ℕ) (d
   pub listed : (dir : Dir) → get dirs path ≡ Some dir → IsTrue all → is_vouched (known records) path (time_of dir.times) (plan.device_of path) ≡ false
   pub many_names : NamesMore dirs plan.pruned limit path
 
--- What a fault leaves: the directory is not pruned; nothing of its block was written, but where a write failed; and a limit
--- was passed where the fault tells of it.
+-- What a fault tells: never that the root is missing; the directory is not pruned; but where a write failed, nothing of
+-- its block was written; and the limit that the fault tells of was passed.
 pub record Ended (fault : ScanFault) (plan : Plan) (path : List ℕ) (old new : Taken) (is_full is_wide : Type 0) : Type 0 where
   pub no_missing : fault ≡ RootMissing → ⊥
   pub unpruned : plan.pruned path ≡ false
