@@ -14,8 +14,8 @@ use Rattle.tree_scan.specs.Plan.{Plan}
 use Rattle.tree_scan.specs.Records.{Record, Vouches, Fitting, Honest, Leaves, Relied, answers_all, bears, is_vouched, known}
 use Rattle.tree_scan.specs.Walks.{AddsChildren}
 use Rattle.tree_scan.proofs.Lists.{Each, Has, Rises, each_more, each_append, each_map, each_filter, rises_filter, rises_append, rises_map}
-use Rattle.tree_scan.proofs.Order.{Before, before_trans}
-use Rattle.tree_scan.proofs.Walk.{IsGood, good}
+use Rattle.tree_scan.proofs.Order.{Before}
+use Rattle.tree_scan.proofs.WalkRecursion.{IsGood, good}
 use Rattle.tree_scan.proofs.Sorted.{Under, IsChild, Apart, ByName, siblings, rises_sorted, joined_no_root, below_child, before_child}
 
 each_of : {A : Type 0} (P : A → Type 0) (xs : List A) → All P xs → Each P xs

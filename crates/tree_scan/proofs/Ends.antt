@@ -1,6 +1,6 @@
 -- How a scan ends: what holds of each answer, by which fault it is.
 use Rattle.std.specs.Prelude.{IfErr, IsErrOf, IsTrue}
-use Rattle.std.proofs.Common.{◌≡◌, ◌≤◌, ◌<◌, ◌+◌, ℕ, Bool, true, false, List, [], length, take, Option, Some, None, Result, Ok, Err, inl, refl, sym, ◌∙◌, ap, true≢false}
+use Rattle.std.proofs.Common.{◌≡◌, ◌≤◌, ◌<◌, ◌+◌, ℕ, Bool, true, false, List, length, take, Option, Some, None, Result, Ok, Err, inl, refl, sym, ◌∙◌, ap, true≢false}
 use Rattle.std.specs.FinMap.{get, entries}
 use Rattle.std.proofs.KnownBytes.{Appends-nil}
 use Rattle.path_order.specs.Stamp.{Moment}

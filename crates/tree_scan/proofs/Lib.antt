@@ -1,6 +1,6 @@
 pub mod Order
 pub mod Lists
-pub mod Walk
+pub mod WalkRecursion
 pub mod Sorted
 pub mod Members
 pub mod PathNames

@@ -12,7 +12,7 @@ use Rattle.loc_outside.specs.Outside.{AppendsPart}
 use Rattle.loc_outside.proofs.PartTaken.{part_first, part_second, part_none}
 use Rattle.loc_outside.specs.Trees.{Dir, Dirs}
 use Rattle.tree_scan.specs.Admitted.{admitted, paths_in}
-use Rattle.tree_scan.specs.Blocks.{block, entries_of, header, lines, pieces, time_of, scan_pieces, scan_text, echo_text}
+use Rattle.tree_scan.specs.Blocks.{block, entries_of, header, lines, pieces, time_of, scan_pieces}
 use Rattle.tree_scan.specs.Plan.{Plan}
 use Rattle.tree_scan.specs.Reach.{is_open, is_tried, tried, reached}
 use Rattle.tree_scan.specs.Records.{Record, Honest, Relied, bears, is_vouched, unvouched}
@@ -29,7 +29,7 @@ use Rattle.tree_scan.proofs.Past.{Past, past_more}
 use Rattle.tree_scan.proofs.Same.{walk_is_led}
 use Rattle.tree_scan.proofs.TreeAnswers.{here_tried, filter_append, filter_short, one}
 use Rattle.tree_scan.proofs.Sorted.{Apart, Under}
-use Rattle.tree_scan.proofs.Walk.{subtree_is}
+use Rattle.tree_scan.proofs.WalkRecursion.{subtree_is}
 
 -- the reached and the tried directories, split into those done and those that the pending paths will give
 pub record Split (dirs : Dirs) (pruned : List ℕ → Bool) (root : List ℕ) (pending : List (List ℕ)) (Written : Found → Found → Type 0) : Type 0 where

@@ -14,7 +14,7 @@ use Rattle.tree_scan.specs.Admitted.{is_directory, admitted, paths_in, names_dir
 use Rattle.tree_scan.specs.Reach.{Test, is_open, leads}
 use Rattle.tree_scan.proofs.Lists.{Each, Has, each_more, each_append, each_flat_map, each_map, has_left, has_right, has_flat_map}
 use Rattle.tree_scan.proofs.Order.{NoSlash}
-use Rattle.tree_scan.proofs.Walk.{here, next, walk, IsGood, admitted_good, subtree, subtree_is}
+use Rattle.tree_scan.proofs.WalkRecursion.{here, next, walk, IsGood, admitted_good, subtree, subtree_is}
 use Rattle.tree_scan.proofs.Sorted.{here_by}
 
 -- the path that names lead to

@@ -12,7 +12,7 @@ use Rattle.mlocate_db.specs.Items.{in_directory}
 use Rattle.tree_scan.specs.Reach.{Test, leads, is_led}
 use Rattle.tree_scan.proofs.Lists.{Each}
 use Rattle.tree_scan.proofs.Order.{NoSlash}
-use Rattle.tree_scan.proofs.Walk.{joined_is}
+use Rattle.tree_scan.proofs.WalkRecursion.{joined_is}
 use Rattle.tree_scan.proofs.Sorted.{joined_no_root}
 use Rattle.tree_scan.proofs.Members.{path_by, IsFine, Led, leads_good}
 

@@ -12,7 +12,7 @@ use Rattle.loc_outside.specs.Trees.{Dir, Dirs}
 use Rattle.tree_scan.specs.Reach.{Test, is_led, led, in_path_order}
 use Rattle.tree_scan.proofs.Lists.{Each, Has, Rises, each_has}
 use Rattle.tree_scan.proofs.Order.{Before, path_total, path_same}
-use Rattle.tree_scan.proofs.Walk.{walk, subtree}
+use Rattle.tree_scan.proofs.WalkRecursion.{walk, subtree}
 use Rattle.tree_scan.proofs.Sorted.{ByPath, walk_rises}
 use Rattle.tree_scan.proofs.Members.{Led, walk_led, led_walked, leads_found}
 use Rattle.tree_scan.proofs.PathNames.{led_reaches, led_is}

@@ -14,7 +14,7 @@ use Rattle.tree_scan.specs.Reach.{Test, is_open}
 use Rattle.mlocate_db.specs.Items.{in_directory}
 use Rattle.tree_scan.proofs.Lists.{Each, Rises, each_more, each_all, each_append, each_flat_map, each_map, each_filter, rises_filter, rises_append, rises_flat_map, rises_map, each_pair}
 use Rattle.tree_scan.proofs.Order.{Before, IsTail, same_front, before_longer, before_sibling}
-use Rattle.tree_scan.proofs.Walk.{here, next, walk, IsGood, joined_is, admitted_good}
+use Rattle.tree_scan.proofs.WalkRecursion.{here, next, walk, IsGood, joined_is, admitted_good}
 
 -- a path that goes on from another at a slash
 pub record Under (path x : List ℕ) : Type 0 where

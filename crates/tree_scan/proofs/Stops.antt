@@ -27,7 +27,7 @@ use Rattle.tree_scan.proofs.Past.{Past}
 use Rattle.tree_scan.proofs.Same.{walk_is_led}
 use Rattle.tree_scan.proofs.Sorted.{Apart, Under, before_child, here_by, joined_no_root, next_children, walk_under}
 use Rattle.tree_scan.proofs.TreeAnswers.{filter_append, here_open, one}
-use Rattle.tree_scan.proofs.Walk.{subtree_is}
+use Rattle.tree_scan.proofs.WalkRecursion.{subtree_is}
 
 abbrev Later : List ℕ → List ℕ × Dir → Type 0
 Later path e = is_lt (path_cmp e.0 path) ≡ false

@@ -270,3 +270,7 @@ fault_or e (Err x) = x
 pub whole_by : (e x : ScanFault) → IsErrOf {T = Unit {0}} (Err e) x → IsTrue (is_whole_after x) → IsTrue (is_whole_after e)
 unfolding fault_or
 whole_by e x h t = ap (λ (r : Result (Unit {0}) ScanFault). is_whole_after (fault_or e r)) h ∙ t
+
+pub fault_is : (e x : ScanFault) → IsErrOf {T = Unit {0}} (Err e) x → e ≡ x
+unfolding fault_or
+fault_is e x h = ap (λ (r : Result (Unit {0}) ScanFault). fault_or e r) h

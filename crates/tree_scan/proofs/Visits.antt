@@ -1,8 +1,9 @@
 -- What a directory adds to a walk.
 use Rattle.std.proofs.Common.{◌≡◌, ℕ, ◌≤◌, ◌<◌, ◌+◌, ◌^◌, Bool, true, false, not, cond, ◌&&◌, ◌==◌, List, [], ◌∷◌, ◌++◌, length, flat_map, refl, sym, ◌∙◌, ap, subst, arith, append-nil, Option, Some, true≢false, if◌then◌else◌}
-use Rattle.std.specs.FinMap.{get}
+use Rattle.std.specs.FinMap.{get, entries}
 use Rattle.std.specs.Io.KnownBytes.{Appends}
 use Rattle.std.proofs.KnownBytes.{Appends-nil}
+use Rattle.std.proofs.lemmas.List.Elements.{All-cons}
 use Rattle.path_order.specs.NameList.{Listed}
 use Rattle.path_order.specs.Stamp.{Moment}
 use Rattle.loc_outside.specs.Causes.{raised}
@@ -15,10 +16,11 @@ use Rattle.tree_scan.specs.Plan.{Plan}
 use Rattle.tree_scan.specs.Reach.{is_open, is_tried}
 use Rattle.tree_scan.specs.Records.{Record, is_vouched, unvouched}
 use Rattle.tree_scan.specs.Steps.{here, weight}
-use Rattle.tree_scan.specs.Stops.{LinesFollow, taken}
+use Rattle.tree_scan.specs.Stops.{LinesFollow, Narrow, taken}
 use Rattle.tree_scan.specs.Walks.{AddsChildren, Breaks, Passes, opens, standing}
 use Rattle.tree_scan.specs.declared.progress.Progress.{Progress}
 use Rattle.tree_scan.proofs.Follows.{Pieces, follows_none}
+use Rattle.tree_scan.proofs.WrittenNames.{some_is}
 use Rattle.tree_scan.proofs.TreeAnswers.{one, here_open, next_open, here_tried, Nothing}
 
 abbrev Known : Type 0
@@ -145,3 +147,24 @@ raised_nothing n m small e = omega (arith, small, e)
 -- how often a directory that is there and not pruned counts
 pub here_once : (dirs : Dirs) (pruned : List ℕ → Bool) (path : List ℕ) (dir : Dir) → get dirs path ≡ Some dir → pruned path ≡ false → length (here dirs (is_tried pruned) path) ≡ 1
 here_once dirs pruned path dir found open_ = ap length (here_tried dirs pruned path dir found open_)
+
+-- it has no more names than the limit, where it is opened
+pub narrow_one : (records : List Record) (dirs : Dirs) (plan : Plan) (path : List ℕ) (dir : Dir) (time : Moment) (limit : ℕ) → get dirs path ≡ Some dir → plan.pruned path ≡ false → time ≡ time_of dir.times
+    → (is_vouched records path time (plan.device_of path) ≡ false → dir.hidden ≡ false → length (entries dir.names) ≤ limit) → Narrow limit (unvouched records plan (here dirs (is_open plan.pruned) path))
+narrow_one records dirs plan path dir time limit found open_ at few =
+    subst (λ (l : List (List ℕ × Dir)). Narrow limit (unvouched records plan l)) (sym (here_open dirs plan.pruned path dir found open_)) (by dir.hidden refl)
+  where
+    shown : dir.hidden ≡ false → (v : Bool) → is_vouched records path (time_of dir.times) (plan.device_of path) ≡ v → Narrow limit (cond (not v) (one path dir) [])
+    shown is true vouched = λ k d h. absurd (omega (arith, h))
+    shown is false vouched = All-cons (λ (e : List ℕ × Dir). length (entries e.1.names) ≤ limit) (path, dir) [] (few (ap (λ (t : Moment). is_vouched records path t (plan.device_of path)) at ∙ vouched) is) (λ k d h. absurd (omega (arith, h)))
+
+    by : (h : Bool) → dir.hidden ≡ h → Narrow limit (unvouched records plan (cond h [] (one path dir)))
+    by true is = λ k d h. absurd (omega (arith, h))
+    by false is = shown is (is_vouched records path (time_of dir.times) (plan.device_of path)) refl
+
+pub narrow_none : (records : List Record) (dirs : Dirs) (plan : Plan) (path : List ℕ) (limit : ℕ) → Nothing dirs plan.pruned path → Narrow limit (unvouched records plan (here dirs (is_open plan.pruned) path))
+narrow_none records dirs plan path limit n = subst (λ (l : List (List ℕ × Dir)). Narrow limit (unvouched records plan l)) (sym n.shown) (λ k d h. absurd (omega (arith, h)))
+
+-- the directory at a path has one time
+pub same_time : (dirs : Dirs) (path : List ℕ) (dir there : Dir) (time : Moment) → get dirs path ≡ Some dir → get dirs path ≡ Some there → time ≡ time_of there.times → time_of dir.times ≡ time
+same_time dirs path dir there time is found at = ap (λ (d : Dir). time_of d.times) (some_is dir there (sym is ∙ found)) ∙ sym at

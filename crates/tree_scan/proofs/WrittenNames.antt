@@ -1,6 +1,6 @@
 -- What was written, name by name.
 use Rattle.std.proofs.Common.{◌≡◌, ℕ, zero, suc, ◌+◌, ◌≤◌, Bool, true, false, List, [], ◌∷◌, ◌++◌, length, take, drop, flat_map, slice_get, IsSomeAnd, IsTrue, All, sym, ◌∙◌, ap, subst, arith, Option, Some, None, Ok, Err, Result, append_assoc, append-nil, if◌then◌else◌, is_some, true≢false, add-one}
-use Rattle.std.specs.Prelude.{OnErr, OnOk, IsOk}
+use Rattle.std.specs.Prelude.{IfErr, OnErr, OnOk, IsOk}
 use Rattle.std.specs.Option.{option_map_or}
 use Rattle.std.proofs.lemmas.List.{take_all}
 use Rattle.std.proofs.KnownBytes.{Appends-nil, Appends-trans}
@@ -80,6 +80,9 @@ lines_none false path names u = Appends-nil u
 pub when_err : {A E : Type 0} (r : Result A E) (P : Type 0) → P → OnErr r P
 when_err (Ok x) P p = tt
 when_err (Err e) P p = p
+
+pub if_err : {A E : Type 0} (r : Result A E) (e : E) (P : E → Type 0) → r ≡ Err e → P e → IfErr r P
+if_err r e P is p = subst (λ (x : Result _ _). IfErr x P) (sym is) p
 
 pub when_ok : {A E : Type 0} (r : Result A E) (P : Type 0) → IsOk r → OnOk r P → P
 when_ok (Ok x) P h p = p

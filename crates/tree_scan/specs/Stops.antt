@@ -1,5 +1,5 @@
 -- What a scan has written where it stops.
-use Rattle.std.specs.Prelude.{IsTrue, ◌≡◌, ◌≤◌, All, Contains, ◌<◌, ◌⊎◌, ℕ, Bool, true, false, not, filter, IsSomeAnd, slice_get, List, [], ◌++◌, length, take, flat_map, Option, Some}
+use Rattle.std.specs.Prelude.{IsTrue, ◌≡◌, ◌≤◌, All, Contains, ◌<◌, ◌⊎◌, ℕ, Bool, false, not, filter, IsSomeAnd, slice_get, List, [], ◌++◌, length, take, flat_map, Option, Some}
 use Rattle.std.specs.Ordering.{is_lt}
 use Rattle.std.specs.FinMap.{get, entries}
 use Rattle.std.specs.Io.KnownBytes.{Appends}

@@ -1,10 +1,8 @@
 //! The complete scan: a database of all that a tree shows, written as the tree is walked in path order.
 #![tactic(auto)]
 
-mod children;
-mod finding;
+mod directory;
 mod laws;
-mod listing;
 mod pending;
 mod progress;
 mod put;
@@ -12,9 +10,8 @@ mod rules;
 mod scanning;
 #[cfg(test)]
 mod tests;
-mod visiting;
 mod voucher;
-mod walking;
+mod walk;
 
 pub use laws::{pieces_make_the_scan, walk_is_in_path_order};
 pub use rules::{Counts, Limits, Rules, ScanFault};

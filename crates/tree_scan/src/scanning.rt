@@ -12,7 +12,7 @@ ghost use Rattle.tree_scan.specs.Stops.{taken};
 
 use crate::progress::Progress;
 use crate::put::put_front;
-use crate::walking::{come, step};
+use crate::walk::{come, step};
 use crate::{Counts, Limits, Rules, ScanFault, Voucher};
 use loc_outside::{Sink, Tree};
 use path_order::{NameList, PathBuf, Stamp, later};

@@ -1,7 +1,7 @@
 use Rattle.std.proofs.Common.{◌≡◌, ◌-◌, ◌≤◌, ◌++◌, length, IsTrue, filter, Some, All}
 use Rattle.path_order.specs.NameList.{Listed}
 use Rattle.tree_scan.specs.Admitted.{fits_in}
-use Rattle.tree_scan.proofs.listing.read_names.Given as goal
+use Rattle.tree_scan.proofs.directory.read_names.Given as goal
 
 abbrev pub invariant-listing : goal.invariant-listing
 invariant-listing g l = record {

@@ -1,6 +1,6 @@
 use Rattle.std.proofs.Common.{◌≡◌, ◌≤◌, ◌++◌, drop, length}
 use Rattle.tree_scan.specs.Admitted.{paths_in}
-use Rattle.tree_scan.proofs.children.push_children.Given as goal
+use Rattle.tree_scan.proofs.directory.push_children.Given as goal
 
 abbrev pub invariant-loop-at : goal.invariant-loop-at
 invariant-loop-at l = record {

@@ -1,6 +1,6 @@
 use Rattle.std.proofs.Common.{◌∙◌, ap, arith, is_some}
 use Rattle.tree_scan.proofs.TreeAnswers.{gives_some, name_more, fit_more, few_more}
-use Rattle.tree_scan.proofs.listing.read_names.Goals as goal
+use Rattle.tree_scan.proofs.directory.read_names.Goals as goal
 
 pub listing-preserved : goal.listing-preserved
 listing-preserved g c = record {

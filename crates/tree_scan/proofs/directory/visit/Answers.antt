@@ -1,4 +1,4 @@
-use Rattle.std.proofs.Common.{rules, ◌≡◌, ◌+◌, refl, sym, ◌∙◌, ap, subst, List, ℕ, Some}
+use Rattle.std.proofs.Common.{rules, ◌≡◌, ◌+◌, refl, sym, ◌∙◌, ap, subst, List, ℕ, arith, Err, Some}
 use Rattle.std.specs.FinMap.{get}
 use Rattle.std.specs.Io.KnownBytes.{Appends}
 use Rattle.loc_outside.specs.Outside.{AppendsPart}
@@ -8,12 +8,11 @@ use Rattle.tree_scan.specs.Stops.{LinesFollow, taken}
 use Rattle.tree_scan.specs.Walks.{Breaks}
 use Rattle.tree_scan.specs.Blocks.{block_pieces, block_text, lines_of, time_of}
 use Rattle.tree_scan.specs.Plans.{plan_of}
-use Rattle.tree_scan.specs.Records.{Relied, known}
-use Rattle.tree_scan.proofs.WrittenNames.{when_err}
+use Rattle.tree_scan.specs.Records.{Relied}
+use Rattle.tree_scan.proofs.WrittenNames.{if_err, when_err}
 use Rattle.tree_scan.proofs.TreeAnswers.{seen_true, seen_false, pushed_short}
-use Rattle.tree_scan.proofs.Asking.{leaves_same}
 use Rattle.tree_scan.proofs.Visits.{passes_shown, passes_hidden, breaks_shown, breaks_none}
-use Rattle.tree_scan.proofs.visiting.visit.Goals as goal
+use Rattle.tree_scan.proofs.directory.visit.Goals as goal
 
 pub returns-then-not-found-clause-shown : goal.returns-then-not-found-clause-shown
 returns-then-not-found-clause-shown g c = λ dirs dir told found time relied.
@@ -42,9 +41,6 @@ returns-in_err-found-clause-breaks g c =
     λ dirs dir told found time relied. breaks_none dirs (plan_of c.args.rules.now) c.args.now c.args.path.now _ _ _ _ refl refl in
     when_err _ _ p
 
-pub returns-in_err-found-clause-many_names : goal.returns-in_err-found-clause-many_names
-returns-in_err-found-clause-many_names g c = λ e dirs dir told found. c.in_err-found.ensures.many (search rules) dirs dir told (subst (λ (p : List ℕ). get dirs p ≡ Some dir) (sym c.bytes-2.ensures.value) found)
-
 pub returns-in_default-put_block-clause-breaks : goal.returns-in_default-put_block-clause-breaks
 returns-in_default-put_block-clause-breaks g c = λ dirs dir told found time relied.
     let device = c.device_of-device.ensures ∙ ap (λ (p : List ℕ). (plan_of c.args.rules.now).device_of p) c.bytes.ensures.value in
@@ -57,11 +53,25 @@ returns-in_default-put_block-clause-breaks g c = λ dirs dir told found time rel
     (subst (λ (p : List ℕ). AppendsPart (g.P.Sink.taken c.args.echo.now) (g.P.Sink.taken c.put_block.new.echo) (lines_of c.args.rules.now.verbose p c.find_names.new.names)) c.in-Ok.ensures.path c.in_default-put_block.ensures.echo_err)
     (subst (λ (p : List ℕ). LinesFollow (block_pieces c.args.rules.now.verbose c.stamp_at-stamp.result c.written_device-written.result p c.find_names.new.names) (taken (g.D.Sink.taken c.args.sink.now) (g.P.Sink.taken c.args.echo.now)) (taken (g.D.Sink.taken c.put_block.new.sink) (g.P.Sink.taken c.put_block.new.echo))) c.in-Ok.ensures.path c.in_default-put_block.ensures.follows)
 
-pub returns-clause-more : goal.returns-clause-more
-returns-clause-more g c = pushed_short c.args.path.now c.find_names.new.names c.args.progress.now.pending c.push_children.new.pending 16777216 c.in-Ok.ensures.ok (c.in_ok-found.ensures.fitting c.if-not-found.false).few
-
 pub returns-then-progress-limits-clause-breaks : goal.returns-then-progress-limits-clause-breaks
 returns-then-progress-limits-clause-breaks g c = λ dirs dir told found time relied. breaks_none dirs (plan_of c.args.rules.now) c.args.now c.args.path.now _ _ _ _ refl refl
 
 pub returns-in_default-clause-breaks : goal.returns-in_default-clause-breaks
 returns-in_default-clause-breaks g c = λ dirs dir told found time relied. breaks_none dirs (plan_of c.args.rules.now) c.args.now c.args.path.now _ _ _ _ refl refl
+
+pub returns-clause-progress : goal.returns-clause-progress
+returns-clause-progress g c =
+    let short = pushed_short c.args.path.now c.find_names.new.names c.args.progress.now.pending c.push_children.new.pending 16777216 c.in-Ok.ensures.ok (c.in_ok-found.ensures.fitting c.if-not-found.false).few in
+    record { more = omega (arith, short); rises = search rules; counted = search rules; adds = search rules }
+
+pub returns-in_err-found-clause-ended : goal.returns-in_err-found-clause-ended
+returns-in_err-found-clause-ended g c = if_err c.from_residual.result c.in_err-found.field-0.0 _ (search rules) (record {
+  no_missing = λ e. c.in_err-found.ensures.no_missing (ap Err e);
+  unpruned = c.requires.unpruned;
+  whole = λ w. (refl, refl);
+  many = λ e. absurd (c.in_err-found.ensures.no_directories (ap Err e));
+  wide = λ e. record {
+    listed = λ w. search rules;
+    many_names = λ dirs dir told found. c.in_err-found.ensures.many (ap Err e) dirs dir told (subst (λ (p : List ℕ). get dirs p ≡ Some dir) (sym c.bytes-2.ensures.value) found);
+  };
+})

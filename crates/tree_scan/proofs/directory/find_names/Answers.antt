@@ -4,7 +4,7 @@ use Rattle.tree_scan.specs.Records.{Vouches, is_vouched, known}
 use Rattle.tree_scan.proofs.TreeAnswers.{when_true}
 use Rattle.tree_scan.proofs.Asking.{mark_known, none_known, relied_on, vouches_known}
 use Rattle.tree_scan.proofs.Visits.{raised_none, raised_some, raised_bound}
-use Rattle.tree_scan.proofs.finding.find_names.Goals as goal
+use Rattle.tree_scan.proofs.directory.find_names.Goals as goal
 
 pub returns-then-vouched-clause-shown : goal.returns-then-vouched-clause-shown
 returns-then-vouched-clause-shown g c = λ dirs dir told found time relied.

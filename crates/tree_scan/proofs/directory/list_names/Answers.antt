@@ -4,7 +4,7 @@ use Rattle.std.proofs.lemmas.List.Sorted.{length_permutation}
 use Rattle.tree_scan.specs.Admitted.{fits_in}
 use Rattle.tree_scan.proofs.TreeAnswers.{shown_listing}
 use Rattle.tree_scan.proofs.Sorting.{sorted_admitted, all_sorted}
-use Rattle.tree_scan.proofs.listing.list_names.Goals as goal
+use Rattle.tree_scan.proofs.directory.list_names.Goals as goal
 
 pub returns-clause-shown : goal.returns-clause-shown
 returns-clause-shown g c = λ dirs dir told found.

@@ -3,7 +3,7 @@ use Rattle.path_order.specs.Path.{joined, is_normal}
 use Rattle.tree_scan.proofs.WrittenNames.{here_by, fits_at}
 use Rattle.tree_scan.proofs.Texts.{child_normal}
 use Rattle.tree_scan.proofs.TreeAnswers.{push_directory, push_file, cut_path}
-use Rattle.tree_scan.proofs.children.push_children.Goals as goal
+use Rattle.tree_scan.proofs.directory.push_children.Goals as goal
 
 pub loop-at-preserved-in-File : goal.loop-at-preserved-in-File
 loop-at-preserved-in-File c = record {
