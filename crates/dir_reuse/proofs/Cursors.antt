@@ -140,7 +140,7 @@ ahead_apart c w m h =
     ∙ apart_by c.reader w (is_live c.reader.stage) refl
 
 -- the directory was passed, with these records
-taken : (dir : List ℕ) (c c1 c2 : Cursor) (a b d : List ℕ) (mine : List Placed) → Skips dir (ahead c (window c.reader.feed a)) (ahead c1 (window c1.reader.feed b)) → CameShows dir sought.Here c1
+pub taken : (dir : List ℕ) (c c1 c2 : Cursor) (a b d : List ℕ) (mine : List Placed) → Skips dir (ahead c (window c.reader.feed a)) (ahead c1 (window c1.reader.feed b)) → CameShows dir sought.Here c1
     → coming_at c1.reader (window c1.reader.feed b) ≡ with_own mine c1.reader.path (coming c2.reader (window c2.reader.feed d)) → Skips dir (ahead c (window c.reader.feed a)) (with_own mine dir (coming c2.reader (window c2.reader.feed d)))
 taken dir c c1 c2 a b d mine m h e =
     subst (Skips dir (ahead c (window c.reader.feed a)))

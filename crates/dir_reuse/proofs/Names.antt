@@ -68,6 +68,11 @@ unfolding sizes
 size_to_end [] is = omega arith
 size_to_end (x ∷ xs) is = omega (arith, size_to_end xs is)
 
+pub sizes_fit : (xs : Listed) (is : List Item) → sizes (entries_of xs) ≤ size_behind (entries_of xs ++ is)
+unfolding sizes
+sizes_fit [] is = omega arith
+sizes_fit (x ∷ xs) is = omega (arith, sizes_fit xs is)
+
 spelled : (is : List Item) → length (spelling mlocate is) ≡ sizes is
 unfolding sizes size
 spelled [] = refl
