@@ -15,7 +15,7 @@ use Rattle.dir_reuse.specs.declared.cursor.Cursor.{Cursor}
 use Rattle.dir_reuse.specs.declared.naming.Names.{Names}
 use Rattle.dir_reuse.specs.declared.naming.Names.TheVariants as names
 use Rattle.dir_reuse.specs.declared.seeking.Sought.TheVariants as sought
-use Rattle.dir_reuse.specs.Usable.{record_of, record_at}
+use Rattle.dir_reuse.specs.Usable.{record_of, usable_record}
 use Rattle.dir_reuse.specs.Coming.{size, size_behind, Placed, placed_at, placed_in, Coming, coming_in, nothing, head_of, coming, coming_at, not_before, Skips}
 use Rattle.dir_reuse.specs.Naming.{entries_of, own, with_own, NamesKnown, Stands, NotPastEnd, NamesNear}
 use Rattle.dir_reuse.specs.Answering.{is_open, ahead, is_sound, SkipsKnown, CameShows, NearFirst, ReadsNear}
@@ -58,7 +58,7 @@ unfolding Behind
 behind_items version p [] = tt
 behind_items version p (HeadItem head ∷ items) =
     behind_both p (placed_at version (p + size (HeadItem head)) head items) (placed_in version (p + size (HeadItem head)) items)
-    (behind_one p (p + size (HeadItem head) + size_behind items) (record_at version head items) (omega arith))
+    (behind_one p (p + size (HeadItem head) + size_behind items) (usable_record version head items) (omega arith))
     (behind_less p (p + size (HeadItem head)) _ (omega arith) (behind_items version (p + size (HeadItem head)) items))
 behind_items version p (HeaderItem header ∷ items) = behind_less p (p + size (HeaderItem header)) _ (omega arith) (behind_items version (p + size (HeaderItem header)) items)
 behind_items version p (EntryItem kind name ∷ items) = behind_less p (p + size (EntryItem kind name)) _ (omega arith) (behind_items version (p + size (EntryItem kind name)) items)
@@ -73,7 +73,7 @@ behind_coming r w = by (is_live r.stage)
     by false = tt
 
 behind_own : (r : ReaderState) (w : Window) (p : ℕ) → p ≤ r.place + size_behind (items_left r w).items → Behind p (own r w)
-behind_own r w p le = behind_one p (r.place + size_behind (items_left r w).items) (record_at r.version (head_of r) (items_left r w).items) le
+behind_own r w p le = behind_one p (r.place + size_behind (items_left r w).items) (usable_record r.version (head_of r) (items_left r w).items) le
 
 behind_head : (r : ReaderState) (w : Window) → Behind r.place (coming_at r w).blocks
 behind_head r w = behind_both r.place (own r w) (placed_in r.version r.place (items_left r w).items) (behind_own r w r.place (omega arith)) (behind_items r.version r.place (items_left r w).items)

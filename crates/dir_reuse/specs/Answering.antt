@@ -14,7 +14,7 @@ use Rattle.tree_scan.specs.Records.{Record, Vouches, LeavesOf, is_vouched}
 use Rattle.dir_reuse.specs.declared.cursor.Cursor.{Cursor}
 use Rattle.dir_reuse.specs.declared.seeking.Sought.{Sought}
 use Rattle.dir_reuse.specs.declared.seeking.Sought.TheVariants as sought
-use Rattle.dir_reuse.specs.Usable.{is_none, paths_rise}
+use Rattle.dir_reuse.specs.Usable.{is_empty, paths_rise}
 use Rattle.dir_reuse.specs.Coming.{Placed, not_before, Coming, nothing, coming, coming_at, records_to_come, Skips, StopsKnown}
 
 -- whether anything can come
@@ -33,7 +33,7 @@ is_sound c =
 
 -- no records, or heads that strictly rise
 abbrev pub in_order : Coming → Bool
-in_order c = is_none (records_to_come c) || paths_rise c.heads
+in_order c = is_empty (records_to_come c) || paths_rise c.heads
 
 -- what the answer says of the records that were to come, and what is left of them
 pub record AnswersOf (dir : List ℕ) (time : Moment) (device : ℕ) (before after : Coming) (unbroken : Bool) (result : Result Bool AllocError) (into : Listed) : Type 0 where
