@@ -1,12 +1,12 @@
 -- What is left of the records to come by each answer.
-use Rattle.std.proofs.Common.{◌≡◌, ℕ, zero, suc, ◌<◌, ◌+◌, Bool, true, false, not, List, [], ◌∷◌, ◌++◌, length, map, filter, Ok, Err, IsTrue, Contains, refl, sym, ap, ◌∙◌, subst, inl, inr, ◌⊎◌, arith, Less, Equal, Greater, is_lt, Ordering}
-use Rattle.std.specs.Prelude.{◌&&◌, ◌||◌, ◌==◌, if◌then◌else◌, Result}
-use Rattle.std.specs.List.{list_all, list_any}
+use Rattle.std.proofs.Common.{◌≡◌, ℕ, ◌+◌, Bool, true, false, not, List, [], ◌∷◌, ◌++◌, map, filter, Ok, Err, Contains, refl, sym, ap, ◌∙◌, subst, inl, inr, ◌⊎◌, arith, Less, Equal, Greater, is_lt, Ordering}
+use Rattle.std.specs.Prelude.{◌&&◌, ◌||◌, ◌==◌, if◌then◌else◌}
+use Rattle.std.specs.List.{list_all}
 use Rattle.std.specs.Option.{option_map_or}
 use Rattle.std.specs.Ordering.{ordering_reverse}
 use Rattle.std.specs.Str.{bytes_eq}
 use Rattle.std.specs.declared.alloc.AllocError.{AllocError}
-use Rattle.std.proofs.lemmas.Bool.{cases_Bool, both_ways, and_parts, and_from}
+use Rattle.std.proofs.lemmas.Bool.{cases_Bool, and_parts, and_from}
 use Rattle.std.proofs.lemmas.List.Elements.{Contains-append_left, Contains-append_right, Contains-push, Contains-push_cases, Contains-append_cases}
 use Rattle.std.proofs.lemmas.Cmp.{tied_itself}
 use Rattle.std.proofs.lemmas.Slice.Eq.{bytes_eq-Decides}
@@ -17,9 +17,9 @@ use Rattle.path_order.proofs.OrderLemmas.{path_total}
 use Rattle.byte_feed.specs.Front.{Window}
 use Rattle.mlocate_db.specs.Items.{Head, Item, HeadItem, EntryItem, EndItem, HeaderItem}
 use Rattle.mlocate_db.specs.Reader.{ReaderState, is_live, items_left}
-use Rattle.tree_scan.specs.Records.{Record, Vouches, LeavesOf, bears, is_moment, is_zero, is_vouched}
-use Rattle.dir_reuse.specs.Usable.{record_of, usable_record, has_end, are_usable, leading_entries, head_paths, paths_rise, is_empty}
-use Rattle.dir_reuse.specs.Coming.{size, size_behind, Placed, placed_at, placed_in, Coming, coming_in, nothing, head_of, coming, coming_at, not_before, records_to_come, Skips}
+use Rattle.tree_scan.specs.Records.{Record, LeavesOf, bears, is_moment, is_zero, is_vouched}
+use Rattle.dir_reuse.specs.Usable.{record_of, has_end, are_usable, leading_entries, head_paths, paths_rise, is_empty}
+use Rattle.dir_reuse.specs.Coming.{size, size_behind, Placed, placed_in, Coming, coming_in, nothing, head_of, coming, coming_at, not_before, records_to_come, Skips}
 use Rattle.dir_reuse.specs.Naming.{own, with_own}
 use Rattle.dir_reuse.specs.Answering.{in_order, AnswersOf}
 

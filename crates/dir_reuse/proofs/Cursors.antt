@@ -1,6 +1,6 @@
 -- What a cursor comes to.
-use Rattle.std.proofs.Common.{◌≡◌, ℕ, ◌+◌, ◌≤◌, Bool, true, false, not, List, [], ◌∷◌, length, Option, Some, None, Ok, Err, IsTrue, refl, sym, ap, ◌∙◌, subst, arith, Less}
-use Rattle.std.specs.Prelude.{◌&&◌, ◌||◌, ◌==◌, nat_le, if◌then◌else◌, Result}
+use Rattle.std.proofs.Common.{◌≡◌, ℕ, Bool, true, false, not, List, [], ◌∷◌, length, Option, Some, None, Ok, Err, refl, sym, ap, ◌∙◌, subst, Less}
+use Rattle.std.specs.Prelude.{◌&&◌, ◌||◌, ◌==◌, nat_le, if◌then◌else◌}
 use Rattle.std.specs.declared.alloc.AllocError.{AllocError}
 use Rattle.std.proofs.lemmas.Bool.{and_parts, leb-true, eqb-true}
 use Rattle.path_order.specs.NameList.{Listed}
@@ -13,7 +13,6 @@ use Rattle.mlocate_db.specs.declared.db_reader.Stage.TheVariants as stages
 use Rattle.mlocate_db.specs.Reader.{ReaderState, is_live, is_inside, items_left}
 use Rattle.tree_scan.specs.Records.{bears, is_zero}
 use Rattle.dir_reuse.specs.declared.cursor.Cursor.{Cursor}
-use Rattle.dir_reuse.specs.declared.naming.Names.{Names}
 use Rattle.dir_reuse.specs.declared.naming.Names.TheVariants as names
 use Rattle.dir_reuse.specs.declared.seeking.Sought.{Sought}
 use Rattle.dir_reuse.specs.declared.seeking.Sought.TheVariants as sought
@@ -21,7 +20,7 @@ use Rattle.dir_reuse.specs.Usable.{record_of}
 use Rattle.dir_reuse.specs.Coming.{Placed, Coming, coming_in, nothing, head_of, coming, coming_at, Skips, StopsKnown}
 use Rattle.dir_reuse.specs.Naming.{NamesKnown, own, with_own}
 use Rattle.dir_reuse.specs.Answering.{is_open, ahead, is_sound, SkipsKnown, CameKnown, HasHead, CameShows, AnswersOf, AnswersTold}
-use Rattle.dir_reuse.proofs.Passing.{skips_none, skips_then, passes_head}
+use Rattle.dir_reuse.proofs.Passing.{skips_then, passes_head}
 use Rattle.dir_reuse.proofs.Answering.{answers_broken, answers_end, answers_later, answers_other, answers_yes, answers_no, answers_lost, answers_zero}
 
 inside_is : (s : Stage) → is_inside s ≡ true → s ≡ stages.Inside

@@ -1,6 +1,6 @@
 -- The names of a directory, one after another.
-use Rattle.std.proofs.Common.{◌≡◌, ℕ, zero, suc, ◌+◌, ◌≤◌, ◌<◌, Bool, true, false, cond, List, [], ◌∷◌, ◌++◌, length, map, All, Option, Some, None, Ok, Err, IsTrue, refl, sym, ap, ◌∙◌, subst, inl, inr, arith, append_assoc, length-append, true≢false, Less, Equal, Greater, nat_cmp, is_lt, Ordering}
-use Rattle.std.specs.Prelude.{◌&&◌, ◌==◌, nat_le, if◌then◌else◌, slice_get, IsSomeAnd}
+use Rattle.std.proofs.Common.{◌≡◌, ℕ, zero, suc, ◌+◌, ◌≤◌, ◌<◌, Bool, true, false, List, [], ◌∷◌, ◌++◌, length, map, Option, Some, None, Ok, Err, IsTrue, refl, sym, ap, ◌∙◌, subst, inl, inr, arith, length-append, Less, Equal, Greater, nat_cmp, is_lt, Ordering}
+use Rattle.std.specs.Prelude.{◌&&◌, nat_le, if◌then◌else◌, slice_get, IsSomeAnd}
 use Rattle.std.specs.List.{list_all}
 use Rattle.std.specs.Cmp.Lexicographic.{slice_cmp}
 use Rattle.std.specs.FinMap.{is_sorted}
@@ -15,24 +15,23 @@ use Rattle.path_order.specs.declared.kind.Kind.{Kind}
 use Rattle.path_order.specs.NameList.{Listed}
 use Rattle.path_order.specs.Names.{is_name}
 use Rattle.byte_feed.specs.Front.{Window, spelling}
-use Rattle.byte_feed.specs.Feed.{FeedState, window, so_far}
+use Rattle.byte_feed.specs.Feed.{FeedState, window}
 use Rattle.byte_feed.specs.declared.damage.DbFault.{DbFault}
 use Rattle.byte_feed.specs.declared.damage.DbFault.TheVariants as faults
 use Rattle.byte_feed.specs.Endings.{Ending, is_read_fault}
 use Rattle.byte_feed.specs.Paths.{Rest, rest_of, after_item, no_items}
-use Rattle.byte_feed.specs.Calls.{Moved, MovedKnown, Broke, EndsKnown}
-use Rattle.byte_feed.proofs.Rests.{moved_then, moved_same, ends_after}
-use Rattle.mlocate_db.specs.Items.{Head, Item, HeadItem, EntryItem, EndItem, spell, mlocate}
+use Rattle.byte_feed.specs.Calls.{MovedKnown, EndsKnown}
+use Rattle.byte_feed.proofs.Rests.{moved_then, moved_same}
+use Rattle.mlocate_db.specs.Items.{Head, Item, EntryItem, EndItem, spell, mlocate}
 use Rattle.mlocate_db.specs.Items.{in_directory}
 use Rattle.mlocate_db.proofs.ItemSteps.{joined_is}
 use Rattle.mlocate_db.specs.Reader.{ReaderState, is_live, items_left}
-use Rattle.path_order.specs.Path.{joined}
 use Rattle.tree_scan.specs.Admitted.{fits_in}
 use Rattle.tree_scan.specs.Records.{Record}
-use Rattle.dir_reuse.specs.Usable.{record_of, usable_record, has_end, are_usable, leading_entries, head_paths}
-use Rattle.dir_reuse.specs.Coming.{size, size_behind, Placed, placed_at, placed_in, Coming, coming_in, nothing, head_of, coming, behind_head, coming_at, Skips, StopsKnown}
+use Rattle.dir_reuse.specs.Usable.{record_of, has_end, are_usable, leading_entries, head_paths}
+use Rattle.dir_reuse.specs.Coming.{size, size_behind, Placed, placed_at, placed_in, Coming, coming_in, nothing, head_of, coming, coming_at, Skips, StopsKnown}
 use Rattle.dir_reuse.specs.Naming.{entries_of, own, with_own, TakenKnown, NamesKnown, refusal_of}
-use Rattle.dir_reuse.proofs.Passing.{skips_none, skips_same, place_moves, live_is}
+use Rattle.dir_reuse.proofs.Passing.{place_moves, live_is}
 
 -- these items, and then the rest
 abbrev pub after_items : List Item → Rest mlocate → Rest mlocate

@@ -1,5 +1,5 @@
 -- How far a question reads.
-use Rattle.std.proofs.Common.{◌≡◌, ℕ, ◌+◌, ◌≤◌, Bool, true, false, not, List, [], ◌∷◌, ◌++◌, length, map, filter, Option, Some, None, Ok, Err, IsTrue, refl, sym, ap, ◌∙◌, subst, arith}
+use Rattle.std.proofs.Common.{◌≡◌, ℕ, ◌+◌, ◌≤◌, Bool, true, false, not, List, [], ◌∷◌, ◌++◌, length, map, filter, Option, Some, None, Ok, Err, refl, sym, ap, subst, arith}
 use Rattle.std.specs.Prelude.{⊤, ◌&&◌, ◌||◌, ◌==◌, nat_le, if◌then◌else◌, Result, IsErr}
 use Rattle.std.specs.declared.alloc.AllocError.{AllocError}
 use Rattle.std.proofs.lemmas.Bool.{and_parts, leb-true, eqb-true}
@@ -8,19 +8,19 @@ use Rattle.byte_feed.specs.Front.{Window}
 use Rattle.byte_feed.specs.Feed.{window, reach}
 use Rattle.byte_feed.specs.Paths.{Rest}
 use Rattle.byte_feed.specs.Calls.{MovedKnown}
-use Rattle.mlocate_db.specs.Items.{Head, Item, HeadItem, EntryItem, EndItem, HeaderItem, mlocate}
-use Rattle.mlocate_db.specs.Reader.{ReaderState, is_live, is_inside, items_left}
+use Rattle.mlocate_db.specs.Items.{Item, HeadItem, EntryItem, EndItem, HeaderItem, mlocate}
+use Rattle.mlocate_db.specs.Reader.{ReaderState, is_live, items_left}
 use Rattle.tree_scan.specs.Records.{Record}
 use Rattle.dir_reuse.specs.declared.cursor.Cursor.{Cursor}
 use Rattle.dir_reuse.specs.declared.naming.Names.{Names}
 use Rattle.dir_reuse.specs.declared.naming.Names.TheVariants as names
 use Rattle.dir_reuse.specs.declared.seeking.Sought.TheVariants as sought
 use Rattle.dir_reuse.specs.Usable.{record_of, usable_record}
-use Rattle.dir_reuse.specs.Coming.{size, size_behind, Placed, placed_at, placed_in, Coming, coming_in, nothing, head_of, coming, coming_at, not_before, Skips}
+use Rattle.dir_reuse.specs.Coming.{size, size_behind, Placed, placed_at, placed_in, coming_in, nothing, head_of, coming, coming_at, not_before, Skips}
 use Rattle.dir_reuse.specs.Naming.{entries_of, own, with_own, NamesKnown, Stands, NotPastEnd, NamesNear}
-use Rattle.dir_reuse.specs.Answering.{is_open, ahead, is_sound, SkipsKnown, CameShows, NearFirst, ReadsNear}
+use Rattle.dir_reuse.specs.Answering.{ahead, is_sound, SkipsKnown, CameShows, NearFirst, ReadsNear}
 use Rattle.dir_reuse.proofs.Names.{after_items, sizes, sizes_fit, places_move}
-use Rattle.dir_reuse.proofs.Cursors.{ahead_closed, taken}
+use Rattle.dir_reuse.proofs.Cursors.{taken}
 
 -- ---- records that end behind a place
 

@@ -1,21 +1,21 @@
 -- What is left to come after a step of a reader.
-use Rattle.std.proofs.Common.{◌≡◌, ℕ, ◌+◌, ◌≤◌, Bool, true, false, not, cond, List, [], ◌∷◌, ◌++◌, length, map, filter, Option, Some, None, Ok, Err, MatchBool, IsTrue, Contains, refl, sym, ap, ◌∙◌, subst, arith, length-append, Less, is_lt}
-use Rattle.std.specs.Prelude.{◌&&◌, ◌==◌, if◌then◌else◌}
+use Rattle.std.proofs.Common.{◌≡◌, ℕ, ◌+◌, Bool, true, false, List, [], ◌∷◌, ◌++◌, length, map, filter, Option, Some, None, Ok, Err, MatchBool, IsTrue, Contains, refl, sym, ap, ◌∙◌, subst, arith, length-append, Less}
+use Rattle.std.specs.Prelude.{◌&&◌, if◌then◌else◌}
 use Rattle.std.proofs.lemmas.List.Elements.{Contains-append_right}
 use Rattle.path_order.specs.Order.{path_cmp}
 use Rattle.byte_feed.specs.declared.damage.DbFault.{DbFault}
 use Rattle.byte_feed.specs.declared.damage.DbFault.TheVariants as faults
 use Rattle.byte_feed.specs.Front.{Window, spelling}
-use Rattle.byte_feed.specs.Feed.{FeedState, window, so_far}
+use Rattle.byte_feed.specs.Feed.{FeedState, window}
 use Rattle.byte_feed.specs.Endings.{Ending, is_read_fault}
 use Rattle.byte_feed.specs.Paths.{Rest, rest_of, after_item, no_items}
-use Rattle.byte_feed.specs.Calls.{Moved, MovedKnown, Broke, EndsKnown}
-use Rattle.mlocate_db.specs.Items.{Head, Item, HeadItem, EntryItem, EndItem, HeaderItem, spell, mlocate}
-use Rattle.mlocate_db.specs.Reader.{ReaderState, is_live, items_left, state_of}
+use Rattle.byte_feed.specs.Calls.{MovedKnown, Broke, EndsKnown}
+use Rattle.mlocate_db.specs.Items.{Head, Item, HeadItem, spell, mlocate}
+use Rattle.mlocate_db.specs.Reader.{ReaderState, is_live, items_left}
 use Rattle.tree_scan.specs.Records.{Record}
-use Rattle.dir_reuse.specs.Usable.{record_of, usable_record, has_end, are_usable, leading_entries, head_paths, paths_rise}
+use Rattle.dir_reuse.specs.Usable.{record_of, has_end, are_usable, leading_entries, head_paths}
 use Rattle.dir_reuse.specs.Seeking.{SeekKnown, stop_of}
-use Rattle.dir_reuse.specs.Coming.{size, size_behind, Placed, placed_at, placed_in, Coming, coming_in, nothing, head_of, coming, behind_head, coming_at, not_before, records_to_come, Skips, Goes, GoesKnown, Short, StopsKnown}
+use Rattle.dir_reuse.specs.Coming.{size, size_behind, Placed, placed_at, placed_in, Coming, coming_in, nothing, head_of, coming, coming_at, not_before, Skips, GoesKnown, Short, StopsKnown}
 
 -- ---- skips
 

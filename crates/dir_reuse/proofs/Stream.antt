@@ -1,28 +1,25 @@
 -- What is known of a voucher that reads forward.
-use Rattle.std.proofs.Common.{◌≡◌, ℕ, ◌+◌, ◌-◌, ◌≤◌, Bool, true, false, not, List, [], ◌∷◌, ◌++◌, length, map, take, Option, Some, None, Ok, Err, IsTrue, IfOk, IfSome, MatchBool, Contains, refl, sym, ap, ◌∙◌, subst, inl, inr, arith}
+use Rattle.std.proofs.Common.{◌≡◌, ℕ, ◌+◌, Bool, true, false, not, List, [], ◌∷◌, ◌++◌, length, map, take, Option, Some, None, Ok, Err, IsTrue, IfOk, IfSome, MatchBool, refl, sym, ap, ◌∙◌, subst, inl, inr, arith}
 use Rattle.std.specs.Prelude.{◌&&◌, ◌||◌, nat_le, if◌then◌else◌, Result, IsSomeAnd, ◌↔◌}
 use Rattle.std.specs.Str.{bytes_eq}
 use Rattle.std.specs.declared.alloc.AllocError.{AllocError}
-use Rattle.std.proofs.lemmas.Bool.{cases_Bool, both_ways, and_parts, and_from}
+use Rattle.std.proofs.lemmas.Bool.{cases_Bool, and_parts, and_from}
 use Rattle.std.proofs.lemmas.Slice.Eq.{bytes_eq-Decides}
 use Rattle.path_order.specs.NameList.{Listed}
 use Rattle.path_order.specs.Stamp.{Moment}
-use Rattle.loc_outside.specs.Causes.{Rose, last_count}
 use Rattle.byte_feed.specs.declared.damage.DbFault.{DbFault}
 use Rattle.byte_feed.specs.declared.damage.DbFault.TheVariants as faults
-use Rattle.byte_feed.specs.Front.{Window, front, limit, readable, items_of}
-use Rattle.byte_feed.specs.Feed.{FeedState, window, empty_at}
-use Rattle.byte_feed.specs.Endings.{Ending, is_read_fault}
-use Rattle.byte_feed.specs.Paths.{Rest, rest_of, after_item, no_items}
-use Rattle.byte_feed.specs.Calls.{Broke, EndsKnown}
+use Rattle.byte_feed.specs.Front.{Window, front, limit, items_of}
+use Rattle.byte_feed.specs.Feed.{window, empty_at}
+use Rattle.byte_feed.specs.Endings.{is_read_fault}
+use Rattle.byte_feed.specs.Paths.{Rest, rest_of}
 use Rattle.mlocate_db.specs.Items.{Item, Header, HeaderItem, HeadItem, EntryItem, EndItem, AtStart, mlocate}
-use Rattle.mlocate_db.specs.declared.db_reader.Stage.TheVariants as stages
-use Rattle.mlocate_db.specs.Reader.{ReaderState, fresh_on, is_live, items_left, Starts, StartKnown}
+use Rattle.mlocate_db.specs.Reader.{ReaderState, fresh_on, is_live, items_left, StartKnown}
 use Rattle.tree_scan.specs.Records.{Record, Vouches, LeavesOf, Leaves, is_vouched}
 use Rattle.dir_reuse.specs.declared.cursor.Cursor.{Cursor}
 use Rattle.dir_reuse.specs.Usable.{records, records_if_same_setup, records_in, usable_record, head_paths, paths_rise, is_empty, is_ordered}
-use Rattle.dir_reuse.specs.Coming.{Placed, placed_at, placed_in, size, size_behind, Coming, coming_in, nothing, coming, records_to_come}
-use Rattle.dir_reuse.specs.Answering.{is_open, ahead, in_order, AnswersOf, AnswersTold}
+use Rattle.dir_reuse.specs.Coming.{Placed, placed_in, size, size_behind, Coming, coming_in, records_to_come}
+use Rattle.dir_reuse.specs.Answering.{is_open, ahead, in_order, AnswersTold}
 use Rattle.dir_reuse.specs.Stream.{known_by, known, ordered_by, is_known_ordered, OpensKnown}
 use Rattle.dir_reuse.proofs.Cursors.{ahead_closed, ahead_apart}
 use Rattle.dir_reuse.proofs.Passing.{live_is}

@@ -1,8 +1,8 @@
 -- What a question to an old database comes to.
-use Rattle.std.specs.Prelude.{◌≡◌, ◌≤◌, ◌+◌, ◌∷◌, filter, ℕ, Bool, true, false, not, ◌&&◌, ◌||◌, ◌==◌, nat_le, IsTrue, Contains, map, List, [], length, Some, None, Result, Ok, Err, IfOk, MatchBool, ⊤, if◌then◌else◌}
+use Rattle.std.specs.Prelude.{◌≡◌, ◌≤◌, ◌+◌, ◌∷◌, filter, ℕ, Bool, true, false, not, ◌&&◌, ◌||◌, ◌==◌, nat_le, IsTrue, List, [], length, Some, None, Result, Ok, IfOk, MatchBool, ⊤, if◌then◌else◌}
 use Rattle.std.specs.declared.option.Option.{Option}
 use Rattle.std.specs.declared.alloc.AllocError.{AllocError}
-use Rattle.std.specs.declared.cmp.Ordering.TheVariants.{Less, Greater}
+use Rattle.std.specs.declared.cmp.Ordering.TheVariants.{Greater}
 use Rattle.path_order.specs.NameList.{Listed}
 use Rattle.path_order.specs.Order.{path_cmp}
 use Rattle.path_order.specs.Stamp.{Moment}
@@ -10,7 +10,7 @@ use Rattle.byte_feed.specs.Front.{Window}
 use Rattle.byte_feed.specs.Feed.{window, reach}
 use Rattle.mlocate_db.specs.declared.db_reader.Stage.TheVariants as stages
 use Rattle.mlocate_db.specs.Reader.{is_inside, is_live}
-use Rattle.tree_scan.specs.Records.{Record, Vouches, LeavesOf, is_vouched}
+use Rattle.tree_scan.specs.Records.{Vouches, LeavesOf, is_vouched}
 use Rattle.dir_reuse.specs.declared.cursor.Cursor.{Cursor}
 use Rattle.dir_reuse.specs.declared.seeking.Sought.{Sought}
 use Rattle.dir_reuse.specs.declared.seeking.Sought.TheVariants as sought

@@ -1,11 +1,11 @@
 -- What is still to come from a reader of an old database.
-use Rattle.std.specs.Prelude.{◌≡◌, ◌≤◌, ℕ, ◌+◌, Bool, true, false, not, IsTrue, Contains, filter, map, List, [], ◌∷◌, ◌++◌, length, Some, None, ⊤, MatchBool, if◌then◌else◌}
+use Rattle.std.specs.Prelude.{◌≡◌, ◌≤◌, ℕ, ◌+◌, Bool, false, not, IsTrue, Contains, filter, map, List, [], ◌∷◌, ◌++◌, length, Some, None, ⊤, MatchBool, if◌then◌else◌}
 use Rattle.std.specs.declared.option.Option.{Option}
 use Rattle.std.specs.Ordering.{is_lt}
 use Rattle.path_order.specs.Order.{path_cmp}
 use Rattle.byte_feed.specs.Front.{Window}
 use Rattle.byte_feed.specs.Feed.{FeedState, window, so_far}
-use Rattle.mlocate_db.specs.Items.{Head, Item, HeadItem, EntryItem, EndItem, HeaderItem, spell}
+use Rattle.mlocate_db.specs.Items.{Head, Item, HeadItem, EntryItem, EndItem, spell}
 use Rattle.mlocate_db.specs.Reader.{ReaderState, is_live, items_left}
 use Rattle.tree_scan.specs.Records.{Record}
 use Rattle.dir_reuse.specs.Usable.{usable_record, head_paths, paths_rise}

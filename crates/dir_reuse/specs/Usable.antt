@@ -1,6 +1,5 @@
 -- The records of an old database: the usable directories of its front.
 use Rattle.std.specs.Prelude.{ℕ, Bool, true, false, ◌&&◌, ◌||◌, ◌==◌, nat_le, List, [], ◌∷◌, ◌++◌, length, Some, None, if◌then◌else◌}
-use Rattle.std.specs.declared.option.Option.{Option}
 use Rattle.std.specs.Ordering.{nat_cmp, is_lt}
 use Rattle.std.specs.Cmp.Lexicographic.{slice_cmp}
 use Rattle.std.specs.FinMap.{is_sorted}
@@ -10,7 +9,7 @@ use Rattle.path_order.specs.NameList.{Listed}
 use Rattle.path_order.specs.Names.{is_name}
 use Rattle.path_order.specs.Order.{path_cmp}
 use Rattle.byte_feed.specs.Front.{front}
-use Rattle.mlocate_db.specs.Items.{Head, Header, Item, HeaderItem, HeadItem, EntryItem, EndItem, mlocate}
+use Rattle.mlocate_db.specs.Items.{Head, Item, HeaderItem, HeadItem, EntryItem, EndItem, mlocate}
 use Rattle.tree_scan.specs.Records.{Record}
 
 -- the entries that come first
@@ -75,7 +74,7 @@ abbrev pub is_empty : List Record → Bool
 is_empty [] = true
 is_empty (r ∷ records) = false
 
--- Whether an old file is in order: it has no records, or the paths of the heads in its front strictly rise. A head whose directory is
--- no record counts too, since a reader that goes forward only cannot know that before it has passed it.
+-- Whether an old file is in order: it has no records, or the paths of the heads in its front strictly rise. A head whose
+-- directory is no record counts too, since a reader that goes forward only cannot know that before it has passed it.
 abbrev pub is_ordered : List ℕ → List ℕ → List ℕ → Bool
 is_ordered root block file = is_empty (records root block file) || paths_rise (head_paths (front mlocate file))

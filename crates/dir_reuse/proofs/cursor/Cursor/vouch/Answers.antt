@@ -1,4 +1,4 @@
-use Rattle.std.proofs.Common.{◌≡◌, false, refl, sym}
+use Rattle.std.proofs.Common.{refl, sym}
 use Rattle.dir_reuse.proofs.Cursors.{told_zero, told_later, told_end, told_other, told_yes, told_no, told_lost}
 use Rattle.byte_feed.proofs.Draws.{draws_then}
 use Rattle.dir_reuse.proofs.Near.{near_still, near_skips, near_whole, near_unusable, near_lost}
