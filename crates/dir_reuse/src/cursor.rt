@@ -101,6 +101,7 @@ impl Cursor {
         ensures closed { is_open self.old ≡ false → result ≡ Sought.End }
         ensures sound { IsTrue (is_sound self.new) }
         ensures unbroken { self.new.unbroken ≡ (not (has_failed result) && self.old.unbroken) }
+        ensures still { is_open self.old ≡ false → self.new.reader ≡ self.old.reader }
         ensures drawn { Draws self.old.reader.feed self.new.reader.feed (S.given src.old) (S.given src.new) (S.left src.old) (S.left src.new) }
         ensures fault { IsTrue (has_failed result) → Rose (S.faults src.old) (S.faults src.new) }
         ensures later { S.faults src.old ≤ S.faults src.new }
@@ -134,6 +135,7 @@ impl Cursor {
         ensures closed { is_open self.old ≡ false → result ≡ Sought.End }
         ensures sound { IsTrue (is_sound self.new) }
         ensures unbroken { self.new.unbroken ≡ (not (has_failed result) && self.old.unbroken) }
+        ensures still { is_open self.old ≡ false → self.new.reader ≡ self.old.reader }
         ensures drawn { Draws self.old.reader.feed self.new.reader.feed (S.given src.old) (S.given src.new) (S.left src.old) (S.left src.new) }
         ensures fault { IsTrue (has_failed result) → Rose (S.faults src.old) (S.faults src.new) }
         ensures later { S.faults src.old ≤ S.faults src.new }
@@ -169,6 +171,7 @@ impl Cursor {
         ensures closed { is_open self.old ≡ false → (is_open self.new ≡ false) × (result ≡ Ok false) }
         ensures sound { IsTrue (is_sound self.new) }
         ensures near { ReadsNear dir.now self.old (S.left src.old) self.new }
+        ensures still { is_open self.old ≡ false → self.new.reader ≡ self.old.reader }
         ensures drawn { Draws self.old.reader.feed self.new.reader.feed (S.given src.old) (S.given src.new) (S.left src.old) (S.left src.new) }
         ensures unbroken { IsTrue self.new.unbroken → IsTrue self.old.unbroken }
         ensures broke { (Rose (S.faults src.old) (S.faults src.new) → ⊥) → self.new.unbroken ≡ self.old.unbroken }
