@@ -36,7 +36,7 @@ implied false b h e = absurd cc
 -- a sound cursor has the head that it is marked to have
 pub has_head : (c : Cursor) → is_sound c ≡ true → c.at_head ≡ true → HasHead c
 has_head c s e =
-    let p = and_parts (nat_le (length c.reader.feed.held) 4096 && (not (is_live c.reader.stage) || c.reader.feed.offset == c.reader.place)) _ s in
+    let p = and_parts (nat_le (length c.reader.feed.held) 4096 && (not (is_live c.reader.stage) || c.reader.feed.offset == c.reader.place)) _ (and_parts _ (c.unbroken || not (is_open c)) s).0 in
     let q = and_parts (nat_le (length c.reader.feed.held) 4096) _ p.0 in
     let h = and_parts c.matched _ (implied c.at_head _ p.1 e) in
     let k = and_parts (is_inside c.reader.stage) _ h.1 in

@@ -18,7 +18,7 @@ use Rattle.dir_reuse.specs.declared.seeking.Sought.TheVariants as sought
 use Rattle.dir_reuse.specs.Usable.{record_of, usable_record}
 use Rattle.dir_reuse.specs.Coming.{size, size_behind, Placed, placed_at, placed_in, coming_in, nothing, head_of, coming, coming_at, not_before, Skips}
 use Rattle.dir_reuse.specs.Naming.{entries_of, own, with_own, NamesKnown, Stands, NotPastEnd, NamesNear}
-use Rattle.dir_reuse.specs.Answering.{ahead, is_sound, SkipsKnown, CameShows, NearFirst, ReadsNear}
+use Rattle.dir_reuse.specs.Answering.{is_open, ahead, is_sound, SkipsKnown, CameShows, NearFirst, ReadsNear}
 use Rattle.dir_reuse.proofs.Names.{after_items, sizes, sizes_fit, places_move}
 use Rattle.dir_reuse.proofs.Cursors.{taken}
 
@@ -100,7 +100,7 @@ near_ahead dir c w near = by c.matched (is_live c.reader.stage) refl c.at_head
 -- a sound cursor reads ahead at most 4,096 bytes
 sound_near : (c : Cursor) → is_sound c ≡ true → is_live c.reader.stage ≡ true → reach c.reader.feed ≤ c.reader.place + 4096
 sound_near c s live =
-    let p = and_parts (nat_le (length c.reader.feed.held) 4096 && (not (is_live c.reader.stage) || c.reader.feed.offset == c.reader.place)) _ s in
+    let p = and_parts (nat_le (length c.reader.feed.held) 4096 && (not (is_live c.reader.stage) || c.reader.feed.offset == c.reader.place)) _ (and_parts _ (c.unbroken || not (is_open c)) s).0 in
     let q = and_parts (nat_le (length c.reader.feed.held) 4096) _ p.0 in
     omega (arith, leb-true _ _ q.0, eqb-true _ _ (implied (is_live c.reader.stage) _ q.1 live))
   where

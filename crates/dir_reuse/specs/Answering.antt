@@ -25,11 +25,13 @@ is_open c = c.matched && is_live c.reader.stage
 abbrev pub ahead : Cursor → Window → Coming
 ahead c w = if is_open c then (if c.at_head then coming_at c.reader w else coming c.reader w) else nothing
 
--- whether the reader stands where the mark says, with at most 4,096 bytes read ahead
+-- whether the reader stands where the mark says, with at most 4,096 bytes read ahead, and nothing can come after a failed
+-- read
 abbrev pub is_sound : Cursor → Bool
 is_sound c =
     nat_le (length c.reader.feed.held) 4096 && (not (is_live c.reader.stage) || c.reader.feed.offset == c.reader.place)
     && (not c.at_head || (c.matched && (is_inside c.reader.stage && c.reader.dir_len == length c.reader.path)))
+    && (c.unbroken || not (is_open c))
 
 -- no records, or heads that strictly rise
 abbrev pub in_order : Coming → Bool
