@@ -1,12 +1,12 @@
 -- What is left of the records to come by each answer.
-use Rattle.std.proofs.Common.{◌≡◌, ℕ, zero, suc, ◌<◌, ◌+◌, Bool, true, false, not, List, [], ◌∷◌, ◌++◌, length, map, filter, Ok, Err, IsTrue, Contains, refl, sym, ap, ◌∙◌, subst, inl, inr, ◌⊎◌, arith, Less, Equal, Greater, is_lt, Ordering}
-use Rattle.std.specs.Prelude.{◌&&◌, ◌||◌, ◌==◌, if◌then◌else◌, Result}
-use Rattle.std.specs.List.{list_all, list_any}
+use Rattle.std.proofs.Common.{◌≡◌, ℕ, ◌+◌, Bool, true, false, not, List, [], ◌∷◌, ◌++◌, map, filter, Ok, Err, Contains, refl, sym, ap, ◌∙◌, subst, inl, inr, ◌⊎◌, arith, Less, Equal, Greater, is_lt, Ordering}
+use Rattle.std.specs.Prelude.{◌&&◌, ◌||◌, ◌==◌, if◌then◌else◌}
+use Rattle.std.specs.List.{list_all}
 use Rattle.std.specs.Option.{option_map_or}
 use Rattle.std.specs.Ordering.{ordering_reverse}
 use Rattle.std.specs.Str.{bytes_eq}
 use Rattle.std.specs.declared.alloc.AllocError.{AllocError}
-use Rattle.std.proofs.lemmas.Bool.{cases_Bool, both_ways, and_parts, and_from}
+use Rattle.std.proofs.lemmas.Bool.{cases_Bool, and_parts, and_from}
 use Rattle.std.proofs.lemmas.List.Elements.{Contains-append_left, Contains-append_right, Contains-push, Contains-push_cases, Contains-append_cases}
 use Rattle.std.proofs.lemmas.Cmp.{tied_itself}
 use Rattle.std.proofs.lemmas.Slice.Eq.{bytes_eq-Decides}
@@ -17,9 +17,9 @@ use Rattle.path_order.proofs.OrderLemmas.{path_total}
 use Rattle.byte_feed.specs.Front.{Window}
 use Rattle.mlocate_db.specs.Items.{Head, Item, HeadItem, EntryItem, EndItem, HeaderItem}
 use Rattle.mlocate_db.specs.Reader.{ReaderState, is_live, items_left}
-use Rattle.tree_scan.specs.Records.{Record, Vouches, LeavesOf, bears, is_moment, is_zero, is_vouched}
-use Rattle.dir_reuse.specs.Usable.{record_of, record_at, is_closed, are_usable, names_first, heads_in, paths_rise, is_none}
-use Rattle.dir_reuse.specs.Coming.{size, size_behind, Placed, placed_at, placed_in, Coming, coming_in, nothing, head_of, coming, coming_at, not_before, records_to_come, Skips}
+use Rattle.tree_scan.specs.Records.{Record, LeavesOf, bears, is_moment, is_zero, is_vouched}
+use Rattle.dir_reuse.specs.Usable.{record_of, has_end, are_usable, leading_entries, head_paths, paths_rise, is_empty}
+use Rattle.dir_reuse.specs.Coming.{size, size_behind, Placed, placed_in, Coming, coming_in, nothing, head_of, coming, coming_at, not_before, records_to_come, Skips}
 use Rattle.dir_reuse.specs.Naming.{own, with_own}
 use Rattle.dir_reuse.specs.Answering.{in_order, AnswersOf}
 
@@ -137,12 +137,12 @@ abbrev all_after : List ℕ → List (List ℕ) → Bool
 all_after dir heads = list_all (λ q. is_lt (path_cmp dir q)) heads
 
 -- none of the records vouches where all heads come after the directory
-later_none : (dir : List ℕ) (time : Moment) (device version place : ℕ) (items : List Item) → all_after dir (heads_in items) ≡ true → is_vouched (recs (placed_in version place items)) dir time device ≡ false
+later_none : (dir : List ℕ) (time : Moment) (device version place : ℕ) (items : List Item) → all_after dir (head_paths items) ≡ true → is_vouched (recs (placed_in version place items)) dir time device ≡ false
 later_none dir time device version place [] h = refl
 later_none dir time device version place (HeadItem head ∷ items) h =
-    own_silent dir time device version head (names_first items) (place + size (HeadItem head) + size_behind items) (is_closed items && are_usable (names_first items)) (placed_in version (place + size (HeadItem head)) items)
-    (no_left _ _ (later_than dir head.path (all_after dir (heads_in items)) h))
-    ∙ later_none dir time device version (place + size (HeadItem head)) items (and_parts (is_lt (path_cmp dir head.path)) (all_after dir (heads_in items)) h).1
+    own_silent dir time device version head (leading_entries items) (place + size (HeadItem head) + size_behind items) (has_end items && are_usable (leading_entries items)) (placed_in version (place + size (HeadItem head)) items)
+    (no_left _ _ (later_than dir head.path (all_after dir (head_paths items)) h))
+    ∙ later_none dir time device version (place + size (HeadItem head)) items (and_parts (is_lt (path_cmp dir head.path)) (all_after dir (head_paths items)) h).1
 later_none dir time device version place (HeaderItem header ∷ items) h = later_none dir time device version (place + size (HeaderItem header)) items h
 later_none dir time device version place (EntryItem kind name ∷ items) h = later_none dir time device version (place + size (EntryItem kind name)) items h
 later_none dir time device version place (EndItem ∷ items) h = later_none dir time device version (place + size EndItem) items h
@@ -173,16 +173,16 @@ in_two : (a b : Bool) → (a || b) ≡ true → (a ≡ true) ⊎ (b ≡ true)
 in_two true b e = inl refl
 in_two false b e = inr e
 
-is_empty : (rs : List Record) → is_none rs ≡ true → rs ≡ []
-is_empty [] e = refl
-is_empty (r ∷ rs) e = absurd cc
+are_none : (rs : List Record) → is_empty rs ≡ true → rs ≡ []
+are_none [] e = refl
+are_none (r ∷ rs) e = absurd cc
 
-none_of : (a b : List Record) → ((r : Record) → Contains b r → Contains a r) → is_none a ≡ true → is_none b ≡ true
+none_of : (a b : List Record) → ((r : Record) → Contains b r → Contains a r) → is_empty a ≡ true → is_empty b ≡ true
 none_of a [] some e = refl
-none_of a (r ∷ b) some e = absurd (in_none r (subst (λ (x : List Record). Contains x r) (is_empty a e) (some r (in_first r b))))
+none_of a (r ∷ b) some e = absurd (in_none r (subst (λ (x : List Record). Contains x r) (are_none a e) (some r (in_first r b))))
 
 order_by : (a b : Coming) → ((r : Record) → Contains (records_to_come b) r → Contains (records_to_come a) r) → (paths_rise a.heads ≡ true → paths_rise b.heads ≡ true) → in_order a ≡ true → in_order b ≡ true
-order_by a b some rise h = elim (in_two (is_none (records_to_come a)) (paths_rise a.heads) h) [
+order_by a b some rise h = elim (in_two (is_empty (records_to_come a)) (paths_rise a.heads) h) [
   | inl none ↦ or_left _ _ (none_of (records_to_come a) (records_to_come b) some none)
   | inr up ↦ or_right _ _ (rise up)
 ]
@@ -191,8 +191,8 @@ pub order_skips : (dir : List ℕ) (a b : Coming) → Skips dir a b → in_order
 order_skips dir a b s h = order_by a b s.some s.rise h
 
 none_by : (dir : List ℕ) (time : Moment) (device : ℕ) (a b : Coming) → Skips dir a b → (paths_rise b.heads ≡ true → is_vouched (records_to_come b) dir time device ≡ false) → in_order a ≡ true → is_vouched (records_to_come a) dir time device ≡ false
-none_by dir time device a b s silent h = elim (in_two (is_none (records_to_come a)) (paths_rise a.heads) h) [
-  | inl none ↦ ap (λ (rs : List Record). is_vouched rs dir time device) (is_empty (records_to_come a) none)
+none_by dir time device a b s silent h = elim (in_two (is_empty (records_to_come a)) (paths_rise a.heads) h) [
+  | inl none ↦ ap (λ (rs : List Record). is_vouched rs dir time device) (are_none (records_to_come a) none)
   | inr up ↦
       vouched_kept dir time device a.blocks
       ∙ ap (λ (blocks : List Placed). is_vouched (recs blocks) dir time device) s.same
@@ -234,8 +234,8 @@ answers_later dir time device a r w unbroken s greater =
     record {
       vouches = refl;
       none = λ is o u. none_by dir time device a (coming_at r w) s (λ up.
-          own_silent dir time device r.version (head_of r) (names_first items) (r.place + size_behind items) (is_closed items && are_usable (names_first items)) (placed_in r.version r.place items) (no_left _ _ (not_same_back r.path dir less))
-          ∙ later_none dir time device r.version r.place items (all_later dir r.path (heads_in items) less (and_parts (all_after r.path (heads_in items)) (paths_rise (heads_in items)) up).0)) o;
+          own_silent dir time device r.version (head_of r) (leading_entries items) (r.place + size_behind items) (has_end items && are_usable (leading_entries items)) (placed_in r.version r.place items) (no_left _ _ (not_same_back r.path dir less))
+          ∙ later_none dir time device r.version r.place items (all_later dir r.path (head_paths items) less (and_parts (all_after r.path (head_paths items)) (paths_rise (head_paths items)) up).0)) o;
       leaves = leaves_skipped dir a (coming_at r w) unbroken s;
       ordered = order_skips dir a (coming_at r w) s;
     }
@@ -248,8 +248,8 @@ answers_other dir time device a r w unbroken s is other =
     record {
       vouches = refl;
       none = λ e o u. none_by dir time device a (coming_at r w) s (λ up.
-          own_silent dir time device r.version (head_of r) (names_first items) (r.place + size_behind items) (is_closed items && are_usable (names_first items)) (placed_in r.version r.place items) (no_right _ _ (other (names_first items)))
-          ∙ later_none dir time device r.version r.place items (subst (λ (x : List ℕ). all_after x (heads_in items) ≡ true) is (and_parts (all_after r.path (heads_in items)) (paths_rise (heads_in items)) up).0)) o;
+          own_silent dir time device r.version (head_of r) (leading_entries items) (r.place + size_behind items) (has_end items && are_usable (leading_entries items)) (placed_in r.version r.place items) (no_right _ _ (other (leading_entries items)))
+          ∙ later_none dir time device r.version r.place items (subst (λ (x : List ℕ). all_after x (head_paths items) ≡ true) is (and_parts (all_after r.path (head_paths items)) (paths_rise (head_paths items)) up).0)) o;
       leaves = leaves_skipped dir a (coming_at r w) unbroken s;
       ordered = order_skips dir a (coming_at r w) s;
     }
@@ -313,10 +313,10 @@ answers_no dir time device a r w unbroken s =
     }
 
 own_paths : (r : ReaderState) (w : Window) → OwnPaths r.path (own r w)
-own_paths r w x h = by (is_closed (items_left r w).items && are_usable (names_first (items_left r w).items)) h
+own_paths r w x h = by (has_end (items_left r w).items && are_usable (leading_entries (items_left r w).items)) h
   where
-    by : (b : Bool) → Contains (recs (map (λ (q : Record). let t : Placed = (q, r.place + size_behind (items_left r w).items) in t) (if b then record_of r.version (head_of r) (names_first (items_left r w).items) ∷ [] else []))) x → x.path ≡ r.path
-    by true k = one_path (record_of r.version (head_of r) (names_first (items_left r w).items)) 0 x k
+    by : (b : Bool) → Contains (recs (map (λ (q : Record). let t : Placed = (q, r.place + size_behind (items_left r w).items) in t) (if b then record_of r.version (head_of r) (leading_entries (items_left r w).items) ∷ [] else []))) x → x.path ≡ r.path
+    by true k = one_path (record_of r.version (head_of r) (leading_entries (items_left r w).items)) 0 x k
     by false k = absurd (in_none x k)
 
 -- no memory was left

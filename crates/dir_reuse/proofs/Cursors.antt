@@ -1,6 +1,6 @@
 -- What a cursor comes to.
-use Rattle.std.proofs.Common.{◌≡◌, ℕ, ◌+◌, ◌≤◌, Bool, true, false, not, List, [], ◌∷◌, length, Option, Some, None, Ok, Err, IsTrue, refl, sym, ap, ◌∙◌, subst, arith, Less}
-use Rattle.std.specs.Prelude.{◌&&◌, ◌||◌, ◌==◌, nat_le, if◌then◌else◌, Result}
+use Rattle.std.proofs.Common.{◌≡◌, ℕ, Bool, true, false, not, List, [], ◌∷◌, length, Option, Some, None, Ok, Err, refl, sym, ap, ◌∙◌, subst, Less}
+use Rattle.std.specs.Prelude.{◌&&◌, ◌||◌, ◌==◌, nat_le, if◌then◌else◌}
 use Rattle.std.specs.declared.alloc.AllocError.{AllocError}
 use Rattle.std.proofs.lemmas.Bool.{and_parts, leb-true, eqb-true}
 use Rattle.path_order.specs.NameList.{Listed}
@@ -13,7 +13,6 @@ use Rattle.mlocate_db.specs.declared.db_reader.Stage.TheVariants as stages
 use Rattle.mlocate_db.specs.Reader.{ReaderState, is_live, is_inside, items_left}
 use Rattle.tree_scan.specs.Records.{bears, is_zero}
 use Rattle.dir_reuse.specs.declared.cursor.Cursor.{Cursor}
-use Rattle.dir_reuse.specs.declared.naming.Names.{Names}
 use Rattle.dir_reuse.specs.declared.naming.Names.TheVariants as names
 use Rattle.dir_reuse.specs.declared.seeking.Sought.{Sought}
 use Rattle.dir_reuse.specs.declared.seeking.Sought.TheVariants as sought
@@ -21,7 +20,7 @@ use Rattle.dir_reuse.specs.Usable.{record_of}
 use Rattle.dir_reuse.specs.Coming.{Placed, Coming, coming_in, nothing, head_of, coming, coming_at, Skips, StopsKnown}
 use Rattle.dir_reuse.specs.Naming.{NamesKnown, own, with_own}
 use Rattle.dir_reuse.specs.Answering.{is_open, ahead, is_sound, SkipsKnown, CameKnown, HasHead, CameShows, AnswersOf, AnswersTold}
-use Rattle.dir_reuse.proofs.Passing.{skips_none, skips_then, passes_head}
+use Rattle.dir_reuse.proofs.Passing.{skips_then, passes_head}
 use Rattle.dir_reuse.proofs.Answering.{answers_broken, answers_end, answers_later, answers_other, answers_yes, answers_no, answers_lost, answers_zero}
 
 inside_is : (s : Stage) → is_inside s ≡ true → s ≡ stages.Inside
@@ -37,7 +36,7 @@ implied false b h e = absurd cc
 -- a sound cursor has the head that it is marked to have
 pub has_head : (c : Cursor) → is_sound c ≡ true → c.at_head ≡ true → HasHead c
 has_head c s e =
-    let p = and_parts (nat_le (length c.reader.feed.held) 4096 && (not (is_live c.reader.stage) || c.reader.feed.offset == c.reader.place)) _ s in
+    let p = and_parts (nat_le (length c.reader.feed.held) 4096 && (not (is_live c.reader.stage) || c.reader.feed.offset == c.reader.place)) _ (and_parts _ (c.unbroken || not (is_open c)) s).0 in
     let q = and_parts (nat_le (length c.reader.feed.held) 4096) _ p.0 in
     let h = and_parts c.matched _ (implied c.at_head _ p.1 e) in
     let k = and_parts (is_inside c.reader.stage) _ h.1 in
@@ -140,7 +139,7 @@ ahead_apart c w m h =
     ∙ apart_by c.reader w (is_live c.reader.stage) refl
 
 -- the directory was passed, with these records
-taken : (dir : List ℕ) (c c1 c2 : Cursor) (a b d : List ℕ) (mine : List Placed) → Skips dir (ahead c (window c.reader.feed a)) (ahead c1 (window c1.reader.feed b)) → CameShows dir sought.Here c1
+pub taken : (dir : List ℕ) (c c1 c2 : Cursor) (a b d : List ℕ) (mine : List Placed) → Skips dir (ahead c (window c.reader.feed a)) (ahead c1 (window c1.reader.feed b)) → CameShows dir sought.Here c1
     → coming_at c1.reader (window c1.reader.feed b) ≡ with_own mine c1.reader.path (coming c2.reader (window c2.reader.feed d)) → Skips dir (ahead c (window c.reader.feed a)) (with_own mine dir (coming c2.reader (window c2.reader.feed d)))
 taken dir c c1 c2 a b d mine m h e =
     subst (Skips dir (ahead c (window c.reader.feed a)))

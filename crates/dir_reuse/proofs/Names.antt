@@ -1,6 +1,6 @@
 -- The names of a directory, one after another.
-use Rattle.std.proofs.Common.{◌≡◌, ℕ, zero, suc, ◌+◌, ◌≤◌, ◌<◌, Bool, true, false, cond, List, [], ◌∷◌, ◌++◌, length, map, All, Option, Some, None, Ok, Err, IsTrue, refl, sym, ap, ◌∙◌, subst, inl, inr, arith, append_assoc, length-append, true≢false, Less, Equal, Greater, nat_cmp, is_lt, Ordering}
-use Rattle.std.specs.Prelude.{◌&&◌, ◌==◌, nat_le, if◌then◌else◌, slice_get, IsSomeAnd}
+use Rattle.std.proofs.Common.{◌≡◌, ℕ, zero, suc, ◌+◌, ◌≤◌, ◌<◌, Bool, true, false, List, [], ◌∷◌, ◌++◌, length, map, Option, Some, None, Ok, Err, IsTrue, refl, sym, ap, ◌∙◌, subst, inl, inr, arith, length-append, Less, Equal, Greater, nat_cmp, is_lt, Ordering}
+use Rattle.std.specs.Prelude.{◌&&◌, nat_le, if◌then◌else◌, slice_get, IsSomeAnd}
 use Rattle.std.specs.List.{list_all}
 use Rattle.std.specs.Cmp.Lexicographic.{slice_cmp}
 use Rattle.std.specs.FinMap.{is_sorted}
@@ -15,24 +15,23 @@ use Rattle.path_order.specs.declared.kind.Kind.{Kind}
 use Rattle.path_order.specs.NameList.{Listed}
 use Rattle.path_order.specs.Names.{is_name}
 use Rattle.byte_feed.specs.Front.{Window, spelling}
-use Rattle.byte_feed.specs.Feed.{FeedState, window, so_far}
+use Rattle.byte_feed.specs.Feed.{FeedState, window}
 use Rattle.byte_feed.specs.declared.damage.DbFault.{DbFault}
 use Rattle.byte_feed.specs.declared.damage.DbFault.TheVariants as faults
 use Rattle.byte_feed.specs.Endings.{Ending, is_read_fault}
 use Rattle.byte_feed.specs.Paths.{Rest, rest_of, after_item, no_items}
-use Rattle.byte_feed.specs.Calls.{Moved, MovedKnown, Broke, EndsKnown}
-use Rattle.byte_feed.proofs.Rests.{moved_then, moved_same, ends_after}
-use Rattle.mlocate_db.specs.Items.{Head, Item, HeadItem, EntryItem, EndItem, spell, mlocate}
+use Rattle.byte_feed.specs.Calls.{MovedKnown, EndsKnown}
+use Rattle.byte_feed.proofs.Rests.{moved_then, moved_same}
+use Rattle.mlocate_db.specs.Items.{Head, Item, EntryItem, EndItem, spell, mlocate}
 use Rattle.mlocate_db.specs.Items.{in_directory}
 use Rattle.mlocate_db.proofs.ItemSteps.{joined_is}
 use Rattle.mlocate_db.specs.Reader.{ReaderState, is_live, items_left}
-use Rattle.path_order.specs.Path.{joined}
 use Rattle.tree_scan.specs.Admitted.{fits_in}
 use Rattle.tree_scan.specs.Records.{Record}
-use Rattle.dir_reuse.specs.Usable.{record_of, record_at, is_closed, are_usable, names_first, heads_in}
-use Rattle.dir_reuse.specs.Coming.{size, size_behind, Placed, placed_at, placed_in, Coming, coming_in, nothing, head_of, coming, behind_head, coming_at, Skips, StopsKnown}
+use Rattle.dir_reuse.specs.Usable.{record_of, has_end, are_usable, leading_entries, head_paths}
+use Rattle.dir_reuse.specs.Coming.{size, size_behind, Placed, placed_at, placed_in, Coming, coming_in, nothing, head_of, coming, coming_at, Skips, StopsKnown}
 use Rattle.dir_reuse.specs.Naming.{entries_of, own, with_own, TakenKnown, NamesKnown, refusal_of}
-use Rattle.dir_reuse.proofs.Passing.{skips_none, skips_same, place_moves, live_is}
+use Rattle.dir_reuse.proofs.Passing.{place_moves, live_is}
 
 -- these items, and then the rest
 abbrev pub after_items : List Item → Rest mlocate → Rest mlocate
@@ -40,15 +39,15 @@ after_items items r = record { items = items ++ r.items; ending = r.ending; plac
 
 -- ---- the items of a directory
 
-pub first_names : (xs : Listed) (is : List Item) → names_first (entries_of xs ++ is) ≡ xs ++ names_first is
+pub first_names : (xs : Listed) (is : List Item) → leading_entries (entries_of xs ++ is) ≡ xs ++ leading_entries is
 first_names [] is = refl
 first_names (x ∷ xs) is = ap (λ (l : Listed). x ∷ l) (first_names xs is)
 
-pub closed_behind : (xs : Listed) (is : List Item) → is_closed (entries_of xs ++ is) ≡ is_closed is
+pub closed_behind : (xs : Listed) (is : List Item) → has_end (entries_of xs ++ is) ≡ has_end is
 closed_behind [] is = refl
 closed_behind (x ∷ xs) is = closed_behind xs is
 
-pub heads_behind : (xs : Listed) (is : List Item) → heads_in (entries_of xs ++ is) ≡ heads_in is
+pub heads_behind : (xs : Listed) (is : List Item) → head_paths (entries_of xs ++ is) ≡ head_paths is
 heads_behind [] is = refl
 heads_behind (x ∷ xs) is = heads_behind xs is
 
@@ -67,6 +66,11 @@ pub size_to_end : (xs : Listed) (is : List Item) → size_behind (entries_of xs 
 unfolding sizes
 size_to_end [] is = omega arith
 size_to_end (x ∷ xs) is = omega (arith, size_to_end xs is)
+
+pub sizes_fit : (xs : Listed) (is : List Item) → sizes (entries_of xs) ≤ size_behind (entries_of xs ++ is)
+unfolding sizes
+sizes_fit [] is = omega arith
+sizes_fit (x ∷ xs) is = omega (arith, sizes_fit xs is)
 
 spelled : (is : List Item) → length (spelling mlocate is) ≡ sizes is
 unfolding sizes size
@@ -98,14 +102,14 @@ behind_names r r' w w' xs live version e =
     let same : (items_left r w).items ≡ entries_of xs ++ is = ap (λ (x : Rest mlocate). x.items) e in
     let blocks : placed_in r.version r.place (items_left r w).items ≡ placed_in r'.version r'.place is =
     ap (placed_in r.version r.place) same ∙ placed_behind r.version r.place xs is ∙ ap (λ (p : ℕ). placed_in r.version p is) (places_move r r' w w' (entries_of xs) e) ∙ ap (λ (v : ℕ). placed_in v r'.place is) (sym version) in
-    let heads : heads_in (items_left r w).items ≡ heads_in is = ap heads_in same ∙ heads_behind xs is in
+    let heads : head_paths (items_left r w).items ≡ head_paths is = ap head_paths same ∙ heads_behind xs is in
     (λ i. let c : Coming = record { blocks = own r w ++ blocks i; heads = r.path ∷ heads i } in c) ∙ ap (with_own (own r w) r.path) (sym (live_is r' w' live))
 
 own_by : (version : ℕ) (head : Head) (at : ℕ) (names : Listed) (b : Bool) → b ≡ false → map (λ (r : Record). let q : Placed = (r, at) in q) (if b then record_of version head names ∷ [] else []) ≡ []
 own_by version head at names b e = ap (λ (c : Bool). map (λ (r : Record). let q : Placed = (r, at) in q) (if c then record_of version head names ∷ [] else [])) e
 
-own_none : (r : ReaderState) (w : Window) → (is_closed (items_left r w).items && are_usable (names_first (items_left r w).items)) ≡ false → own r w ≡ []
-own_none r w e = own_by r.version (head_of r) (r.place + size_behind (items_left r w).items) (names_first (items_left r w).items) _ e
+own_none : (r : ReaderState) (w : Window) → (has_end (items_left r w).items && are_usable (leading_entries (items_left r w).items)) ≡ false → own r w ≡ []
+own_none r w e = own_by r.version (head_of r) (r.place + size_behind (items_left r w).items) (leading_entries (items_left r w).items) _ e
 
 own_some : (r : ReaderState) (w : Window) (xs : Listed) (is : List Item) (at : ℕ) → (items_left r w).items ≡ entries_of xs ++ EndItem ∷ is → are_usable xs ≡ true → r.place + (sizes (entries_of xs) + size EndItem) ≡ at
     → own r w ≡ (record_of r.version (head_of r) xs, at) ∷ []
@@ -263,7 +267,7 @@ names_err r0 r l l' into (Ok x) h t = absurd cc
 names_err r0 r l l' into (Err e) h t = t
 
 bad_own : (r : ReaderState) (w : Window) (xs : Listed) (is : List Item) → (items_left r w).items ≡ entries_of xs ++ is → are_usable xs ≡ false → own r w ≡ []
-bad_own r w xs is e bad = own_none r w (and_none _ _ (ap (λ (l : List Item). are_usable (names_first l)) e ∙ ap are_usable (first_names xs is) ∙ unusable xs (names_first is) bad))
+bad_own r w xs is e bad = own_none r w (and_none _ _ (ap (λ (l : List Item). are_usable (leading_entries l)) e ∙ ap are_usable (first_names xs is) ∙ unusable xs (leading_entries is) bad))
 
 -- these names are no record's
 pub names_bad : (r0 r : ReaderState) (xs : Listed) (l l' : Option (List ℕ)) → is_live r.stage ≡ true → r.version ≡ r0.version → are_usable xs ≡ false → MovedKnown (items_left r0) (items_left r) (after_items (entries_of xs)) r0.feed l r.feed l'
@@ -293,7 +297,7 @@ names_whole r0 r r' xs (Some a) (Some b) (Some c) live version version' good m s
     let blocks : placed_in r0.version r0.place (items_left r0 w).items ≡ placed_in r'.version r'.place is =
     ap (placed_in r0.version r0.place) same ∙ placed_behind r0.version r0.place xs (EndItem ∷ is)
     ∙ ap (λ (p : ℕ). placed_in r0.version (p + size EndItem) is) at ∙ ap (λ (p : ℕ). placed_in r0.version p is) at' ∙ ap (λ (v : ℕ). placed_in v r'.place is) (sym (version' ∙ version)) in
-    let heads : heads_in (items_left r0 w).items ≡ heads_in is = ap heads_in same ∙ heads_behind xs (EndItem ∷ is) in
+    let heads : head_paths (items_left r0 w).items ≡ head_paths is = ap head_paths same ∙ heads_behind xs (EndItem ∷ is) in
     let mine : own r0 w ≡ (record_of r0.version (head_of r0) xs, r'.place) ∷ [] = own_some r0 w xs is r'.place same good (omega (arith, at, at')) in
     (λ i. let c : Coming = record { blocks = mine i ++ blocks i; heads = r0.path ∷ heads i } in c) ∙ ap (with_own ((record_of r0.version (head_of r0) xs, r'.place) ∷ []) r0.path) (sym (live_is r' w'' live))
 
@@ -302,8 +306,8 @@ bare_names : (r : ReaderState) (w : Window) (xs : Listed) (place : ℕ) (e : End
 bare_names r w xs place e k =
     let same : (items_left r w).items ≡ entries_of xs ++ [] = ap (λ (x : Rest mlocate). x.items) k in
     let blocks : placed_in r.version r.place (items_left r w).items ≡ [] = ap (placed_in r.version r.place) same ∙ placed_behind r.version r.place xs [] in
-    let heads : heads_in (items_left r w).items ≡ [] = ap heads_in same ∙ heads_behind xs [] in
-    let mine : own r w ≡ [] = own_none r w (open_end (is_closed (items_left r w).items) _ (ap is_closed same ∙ closed_behind xs [])) in
+    let heads : head_paths (items_left r w).items ≡ [] = ap head_paths same ∙ heads_behind xs [] in
+    let mine : own r w ≡ [] = own_none r w (open_end (has_end (items_left r w).items) _ (ap has_end same ∙ closed_behind xs [])) in
     λ i. let c : Coming = record { blocks = mine i ++ blocks i; heads = r.path ∷ heads i } in c
   where
     open_end : (b c : Bool) → b ≡ false → (b && c) ≡ false

@@ -1,21 +1,21 @@
 -- What is left to come after a step of a reader.
-use Rattle.std.proofs.Common.{◌≡◌, ℕ, ◌+◌, ◌≤◌, Bool, true, false, not, cond, List, [], ◌∷◌, ◌++◌, length, map, filter, Option, Some, None, Ok, Err, MatchBool, IsTrue, Contains, refl, sym, ap, ◌∙◌, subst, arith, length-append, Less, is_lt}
-use Rattle.std.specs.Prelude.{◌&&◌, ◌==◌, if◌then◌else◌}
+use Rattle.std.proofs.Common.{◌≡◌, ℕ, ◌+◌, Bool, true, false, List, [], ◌∷◌, ◌++◌, length, map, filter, Option, Some, None, Ok, Err, MatchBool, IsTrue, Contains, refl, sym, ap, ◌∙◌, subst, arith, length-append, Less}
+use Rattle.std.specs.Prelude.{◌&&◌, if◌then◌else◌}
 use Rattle.std.proofs.lemmas.List.Elements.{Contains-append_right}
 use Rattle.path_order.specs.Order.{path_cmp}
 use Rattle.byte_feed.specs.declared.damage.DbFault.{DbFault}
 use Rattle.byte_feed.specs.declared.damage.DbFault.TheVariants as faults
 use Rattle.byte_feed.specs.Front.{Window, spelling}
-use Rattle.byte_feed.specs.Feed.{FeedState, window, so_far}
+use Rattle.byte_feed.specs.Feed.{FeedState, window}
 use Rattle.byte_feed.specs.Endings.{Ending, is_read_fault}
 use Rattle.byte_feed.specs.Paths.{Rest, rest_of, after_item, no_items}
-use Rattle.byte_feed.specs.Calls.{Moved, MovedKnown, Broke, EndsKnown}
-use Rattle.mlocate_db.specs.Items.{Head, Item, HeadItem, EntryItem, EndItem, HeaderItem, spell, mlocate}
-use Rattle.mlocate_db.specs.Reader.{ReaderState, is_live, items_left, state_of}
+use Rattle.byte_feed.specs.Calls.{MovedKnown, Broke, EndsKnown}
+use Rattle.mlocate_db.specs.Items.{Head, Item, HeadItem, spell, mlocate}
+use Rattle.mlocate_db.specs.Reader.{ReaderState, is_live, items_left}
 use Rattle.tree_scan.specs.Records.{Record}
-use Rattle.dir_reuse.specs.Usable.{record_of, record_at, is_closed, are_usable, names_first, heads_in, paths_rise}
+use Rattle.dir_reuse.specs.Usable.{record_of, has_end, are_usable, leading_entries, head_paths}
 use Rattle.dir_reuse.specs.Seeking.{SeekKnown, stop_of}
-use Rattle.dir_reuse.specs.Coming.{size, size_behind, Placed, placed_at, placed_in, Coming, coming_in, nothing, head_of, coming, behind_head, coming_at, not_before, records_to_come, Skips, Goes, GoesKnown, Short, StopsKnown}
+use Rattle.dir_reuse.specs.Coming.{size, size_behind, Placed, placed_at, placed_in, Coming, coming_in, nothing, head_of, coming, coming_at, not_before, Skips, GoesKnown, Short, StopsKnown}
 
 -- ---- skips
 
@@ -51,7 +51,7 @@ passes_head dir r w live less =
     let items : List Item = (items_left r w).items in
     let still : coming r w ≡ coming_in r.version r.place items = ap (λ (b : Bool). if b then coming_in r.version r.place items else nothing) live in
     subst (Skips dir (coming_at r w)) (sym still) (record {
-      same = own_before dir r.version (head_of r) (names_first items) (r.place + size_behind items) (is_closed items && are_usable (names_first items)) (placed_in r.version r.place items) less;
+      same = own_before dir r.version (head_of r) (leading_entries items) (r.place + size_behind items) (has_end items && are_usable (leading_entries items)) (placed_in r.version r.place items) less;
       some = some_behind (placed_at r.version r.place (head_of r) items) (placed_in r.version r.place items);
       rise = and_right _ _;
     })
@@ -92,8 +92,8 @@ passes_item r r' w w' i live live' version plain e =
 pub finds_head : (r r' : ReaderState) (w w' : Window) → is_live r.stage ≡ true → r'.version ≡ r.version → items_left r w ≡ after_item mlocate (HeadItem (head_of r')) (items_left r' w') → coming r w ≡ coming_at r' w'
 finds_head r r' w w' live version e =
     step_in r r' w w' (HeadItem (head_of r'))
-    (λ p items. record { blocks = placed_at r.version p (head_of r') items ++ placed_in r.version p items; heads = r'.path ∷ heads_in items }) live e (λ items. refl)
-    ∙ ap (λ (v : ℕ). let is : List Item = (items_left r' w').items in let c : Coming = record { blocks = placed_at v r'.place (head_of r') is ++ placed_in v r'.place is; heads = r'.path ∷ heads_in is } in c) (sym version)
+    (λ p items. record { blocks = placed_at r.version p (head_of r') items ++ placed_in r.version p items; heads = r'.path ∷ head_paths items }) live e (λ items. refl)
+    ∙ ap (λ (v : ℕ). let is : List Item = (items_left r' w').items in let c : Coming = record { blocks = placed_at v r'.place (head_of r') is ++ placed_in v r'.place is; heads = r'.path ∷ head_paths is } in c) (sym version)
 
 -- ---- the whole file, and its first parts
 

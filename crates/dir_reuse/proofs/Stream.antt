@@ -1,28 +1,25 @@
 -- What is known of a voucher that reads forward.
-use Rattle.std.proofs.Common.{◌≡◌, ℕ, ◌+◌, ◌-◌, ◌≤◌, Bool, true, false, not, List, [], ◌∷◌, ◌++◌, length, map, take, Option, Some, None, Ok, Err, IsTrue, IfOk, IfSome, MatchBool, Contains, refl, sym, ap, ◌∙◌, subst, inl, inr, arith}
+use Rattle.std.proofs.Common.{◌≡◌, ℕ, ◌+◌, Bool, true, false, not, List, [], ◌∷◌, ◌++◌, length, map, take, Option, Some, None, Ok, Err, IsTrue, IfOk, IfSome, MatchBool, refl, sym, ap, ◌∙◌, subst, inl, inr, arith}
 use Rattle.std.specs.Prelude.{◌&&◌, ◌||◌, nat_le, if◌then◌else◌, Result, IsSomeAnd, ◌↔◌}
 use Rattle.std.specs.Str.{bytes_eq}
 use Rattle.std.specs.declared.alloc.AllocError.{AllocError}
-use Rattle.std.proofs.lemmas.Bool.{cases_Bool, both_ways, and_parts, and_from}
+use Rattle.std.proofs.lemmas.Bool.{cases_Bool, and_parts, and_from}
 use Rattle.std.proofs.lemmas.Slice.Eq.{bytes_eq-Decides}
 use Rattle.path_order.specs.NameList.{Listed}
 use Rattle.path_order.specs.Stamp.{Moment}
-use Rattle.loc_outside.specs.Causes.{Rose, last_count}
 use Rattle.byte_feed.specs.declared.damage.DbFault.{DbFault}
 use Rattle.byte_feed.specs.declared.damage.DbFault.TheVariants as faults
-use Rattle.byte_feed.specs.Front.{Window, front, limit, readable, items_of}
-use Rattle.byte_feed.specs.Feed.{FeedState, window, empty_at}
-use Rattle.byte_feed.specs.Endings.{Ending, is_read_fault}
-use Rattle.byte_feed.specs.Paths.{Rest, rest_of, after_item, no_items}
-use Rattle.byte_feed.specs.Calls.{Broke, EndsKnown}
+use Rattle.byte_feed.specs.Front.{Window, front, limit, items_of}
+use Rattle.byte_feed.specs.Feed.{window, empty_at}
+use Rattle.byte_feed.specs.Endings.{is_read_fault}
+use Rattle.byte_feed.specs.Paths.{Rest, rest_of}
 use Rattle.mlocate_db.specs.Items.{Item, Header, HeaderItem, HeadItem, EntryItem, EndItem, AtStart, mlocate}
-use Rattle.mlocate_db.specs.declared.db_reader.Stage.TheVariants as stages
-use Rattle.mlocate_db.specs.Reader.{ReaderState, fresh_on, is_live, items_left, Starts, StartKnown}
+use Rattle.mlocate_db.specs.Reader.{ReaderState, fresh_on, is_live, items_left, StartKnown}
 use Rattle.tree_scan.specs.Records.{Record, Vouches, LeavesOf, Leaves, is_vouched}
 use Rattle.dir_reuse.specs.declared.cursor.Cursor.{Cursor}
-use Rattle.dir_reuse.specs.Usable.{records, records_behind, records_in, record_at, heads_in, paths_rise, is_none, is_ordered}
-use Rattle.dir_reuse.specs.Coming.{Placed, placed_at, placed_in, size, size_behind, Coming, coming_in, nothing, coming, records_to_come}
-use Rattle.dir_reuse.specs.Answering.{is_open, ahead, in_order, AnswersOf, AnswersTold}
+use Rattle.dir_reuse.specs.Usable.{records, records_if_same_setup, records_in, usable_record, head_paths, paths_rise, is_empty, is_ordered}
+use Rattle.dir_reuse.specs.Coming.{Placed, placed_in, size, size_behind, Coming, coming_in, records_to_come}
+use Rattle.dir_reuse.specs.Answering.{is_open, ahead, in_order, AnswersTold}
 use Rattle.dir_reuse.specs.Stream.{known_by, known, ordered_by, is_known_ordered, OpensKnown}
 use Rattle.dir_reuse.proofs.Cursors.{ahead_closed, ahead_apart}
 use Rattle.dir_reuse.proofs.Passing.{live_is}
@@ -105,8 +102,8 @@ recs_own (r ∷ rs) at rest = ap (λ (l : List Record). r ∷ l) (recs_own rs at
 placed_records : (version place : ℕ) (items : List Item) → map (λ (b : Placed). b.0) (placed_in version place items) ≡ records_in version items
 placed_records version place [] = refl
 placed_records version place (HeadItem head ∷ items) =
-    recs_own (record_at version head items) (place + size (HeadItem head) + size_behind items) (placed_in version (place + size (HeadItem head)) items)
-    ∙ ap (λ (l : List Record). record_at version head items ++ l) (placed_records version (place + size (HeadItem head)) items)
+    recs_own (usable_record version head items) (place + size (HeadItem head) + size_behind items) (placed_in version (place + size (HeadItem head)) items)
+    ∙ ap (λ (l : List Record). usable_record version head items ++ l) (placed_records version (place + size (HeadItem head)) items)
 placed_records version place (HeaderItem header ∷ items) = placed_records version (place + size (HeaderItem header)) items
 placed_records version place (EntryItem kind name ∷ items) = placed_records version (place + size (EntryItem kind name)) items
 placed_records version place (EndItem ∷ items) = placed_records version (place + size EndItem) items
@@ -152,17 +149,17 @@ opens_by root block file y r' header true is version live all =
     let items : List Item = (items_left r' w).items in
     let c : Cursor = opened_by r' true true in
     let given : ahead c w ≡ coming_in r'.version r'.place items = ahead_apart c w refl refl ∙ live_is r' w live in
-    let told : records root block file ≡ records_in header.version items = ap (records_behind root block) all ∙ ap (λ (b : Bool). if b then records_in header.version items else []) (sym is) in
+    let told : records root block file ≡ records_in header.version items = ap (records_if_same_setup root block) all ∙ ap (λ (b : Bool). if b then records_in header.version items else []) (sym is) in
     let come : records_to_come (ahead c w) ≡ records_in header.version items = ap records_to_come given ∙ placed_records r'.version r'.place items ∙ ap (λ (v : ℕ). records_in v items) version in
     let same : records_to_come (ahead c w) ≡ records root block file = come ∙ sym told in
-    let heads : (ahead c w).heads ≡ heads_in (front mlocate file) = ap (λ (x : Coming). x.heads) given ∙ sym (ap heads_in all) in
-    (known_open c y live ∙ ap (λ (rs : List Record). Some rs) same, order_open c y live ∙ (λ i. is_none (same i) || paths_rise (heads i)))
+    let heads : (ahead c w).heads ≡ head_paths (front mlocate file) = ap (λ (x : Coming). x.heads) given ∙ sym (ap head_paths all) in
+    (known_open c y live ∙ ap (λ (rs : List Record). Some rs) same, order_open c y live ∙ (λ i. is_empty (same i) || paths_rise (heads i)))
 opens_by root block file y r' header false is version live all =
     let w : Window = window r'.feed y in
     let items : List Item = (items_left r' w).items in
     let c : Cursor = opened_by r' false true in
-    let told : records root block file ≡ [] = ap (records_behind root block) all ∙ ap (λ (b : Bool). if b then records_in header.version items else []) (sym is) in
-    (known_shut c (Some y) refl ∙ ap (λ (rs : List Record). Some rs) (sym told), order_shut c (Some y) refl ∙ ap (λ (rs : List Record). is_none rs || paths_rise (heads_in (front mlocate file))) (sym told))
+    let told : records root block file ≡ [] = ap (records_if_same_setup root block) all ∙ ap (λ (b : Bool). if b then records_in header.version items else []) (sym is) in
+    (known_shut c (Some y) refl ∙ ap (λ (rs : List Record). Some rs) (sym told), order_shut c (Some y) refl ∙ ap (λ (rs : List Record). is_empty rs || paths_rise (head_paths (front mlocate file))) (sym told))
 
 -- the header was read
 pub opens_ok : (root block : List ℕ) (r' : ReaderState) (l l' : Option (List ℕ)) (same : Bool) → StartKnown (Ok same) (fresh_on (empty_at 0)) l r' l' root block → OpensKnown root block l (opened_by r' same true) l'
@@ -179,8 +176,8 @@ opens_ok root block r' (Some file) (Some y) same m =
 opens_none : (root block file y : List ℕ) (r' : ReaderState) → front mlocate file ≡ [] → Opens root block file y (opened_by r' false true)
 opens_none root block file y r' none =
     let c : Cursor = opened_by r' false true in
-    let told : records root block file ≡ [] = ap (records_behind root block) none in
-    (known_shut c (Some y) refl ∙ ap (λ (rs : List Record). Some rs) (sym told), order_shut c (Some y) refl ∙ ap (λ (rs : List Record). is_none rs || paths_rise (heads_in (front mlocate file))) (sym told))
+    let told : records root block file ≡ [] = ap (records_if_same_setup root block) none in
+    (known_shut c (Some y) refl ∙ ap (λ (rs : List Record). Some rs) (sym told), order_shut c (Some y) refl ∙ ap (λ (rs : List Record). is_empty rs || paths_rise (head_paths (front mlocate file))) (sym told))
 
 -- it was refused
 pub opens_err : (root block : List ℕ) (r' : ReaderState) (l l' : Option (List ℕ)) (fault : DbFault) → StartKnown (Err fault) (fresh_on (empty_at 0)) l r' l' root block → OpensKnown root block l (opened_by r' false (not (is_read_fault (Err fault)))) l'

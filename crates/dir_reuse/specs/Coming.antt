@@ -1,14 +1,14 @@
 -- What is still to come from a reader of an old database.
-use Rattle.std.specs.Prelude.{◌≡◌, ◌≤◌, ℕ, ◌+◌, Bool, true, false, not, IsTrue, Contains, filter, map, List, [], ◌∷◌, ◌++◌, length, Some, None, ⊤, MatchBool, if◌then◌else◌}
+use Rattle.std.specs.Prelude.{◌≡◌, ◌≤◌, ℕ, ◌+◌, Bool, false, not, IsTrue, Contains, filter, map, List, [], ◌∷◌, ◌++◌, length, Some, None, ⊤, MatchBool, if◌then◌else◌}
 use Rattle.std.specs.declared.option.Option.{Option}
 use Rattle.std.specs.Ordering.{is_lt}
 use Rattle.path_order.specs.Order.{path_cmp}
 use Rattle.byte_feed.specs.Front.{Window}
 use Rattle.byte_feed.specs.Feed.{FeedState, window, so_far}
-use Rattle.mlocate_db.specs.Items.{Head, Item, HeadItem, EntryItem, EndItem, HeaderItem, spell}
+use Rattle.mlocate_db.specs.Items.{Head, Item, HeadItem, EntryItem, EndItem, spell}
 use Rattle.mlocate_db.specs.Reader.{ReaderState, is_live, items_left}
 use Rattle.tree_scan.specs.Records.{Record}
-use Rattle.dir_reuse.specs.Usable.{record_at, heads_in, paths_rise}
+use Rattle.dir_reuse.specs.Usable.{usable_record, head_paths, paths_rise}
 
 -- how many bytes an item has
 unfoldable pub size : Item → ℕ
@@ -24,9 +24,9 @@ size_behind items = 0
 abbrev pub Placed : Type 0
 Placed = Record × ℕ
 
--- the same as `record_at` and `records_in`, where the items begin at an offset
+-- the same as `usable_record` and `records_in`, where the items begin at an offset
 abbrev pub placed_at : ℕ → ℕ → Head → List Item → List Placed
-placed_at version place head items = map (λ r. (r, place + size_behind items)) (record_at version head items)
+placed_at version place head items = map (λ r. (r, place + size_behind items)) (usable_record version head items)
 
 abbrev pub placed_in : ℕ → ℕ → List Item → List Placed
 placed_in version place [] = []
@@ -39,7 +39,7 @@ pub record Coming : Type 0 where
   pub heads : List (List ℕ)
 
 abbrev pub coming_in : ℕ → ℕ → List Item → Coming
-coming_in version place items = record { blocks = placed_in version place items; heads = heads_in items }
+coming_in version place items = record { blocks = placed_in version place items; heads = head_paths items }
 
 abbrev pub nothing : Coming
 nothing = record { blocks = []; heads = [] }
@@ -56,7 +56,7 @@ coming r w = if is_live r.stage then coming_in r.version r.place (items_left r w
 abbrev pub behind_head : ReaderState → List Item → Coming
 behind_head r items = record {
   blocks = placed_at r.version r.place (head_of r) items ++ placed_in r.version r.place items;
-  heads = r.path ∷ heads_in items;
+  heads = r.path ∷ head_paths items;
 }
 
 abbrev pub coming_at : ReaderState → Window → Coming

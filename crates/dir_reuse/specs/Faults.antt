@@ -1,5 +1,5 @@
 -- Counts of faults that don't fall.
-use Rattle.std.specs.Prelude.{ℕ, ◌+◌, ◌≤◌, min}
+use Rattle.std.specs.Prelude.{ℕ, ◌+◌, ◌≤◌}
 use Rattle.std.proofs.Math.Nat.{le_trans, le_refl, le-min, min-le_left, min-le_right, add-le-add}
 use Rattle.loc_outside.specs.Causes.{Rose, last_count}
 

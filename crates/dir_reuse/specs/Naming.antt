@@ -1,5 +1,5 @@
 -- What reading the names of a directory comes to.
-use Rattle.std.specs.Prelude.{◌≡◌, ◌≤◌, ℕ, Bool, true, false, List, [], ◌∷◌, ◌++◌, length, map, Some, None, Result, Ok, Err, ⊤}
+use Rattle.std.specs.Prelude.{◌≡◌, ◌≤◌, ◌+◌, ℕ, Bool, true, false, List, [], ◌∷◌, ◌++◌, length, map, Some, None, Result, Ok, Err, ⊤}
 use Rattle.std.specs.declared.option.Option.{Option}
 use Rattle.std.specs.declared.alloc.AllocError.{AllocError}
 use Rattle.path_order.specs.NameList.{Listed}
@@ -12,7 +12,7 @@ use Rattle.mlocate_db.specs.Reader.{ReaderState, is_live, items_left}
 use Rattle.dir_reuse.specs.declared.naming.Names.{Names}
 use Rattle.dir_reuse.specs.declared.naming.Names.TheVariants as names
 use Rattle.dir_reuse.specs.Usable.{record_of}
-use Rattle.dir_reuse.specs.Coming.{Placed, placed_at, Coming, head_of, coming, coming_at, StopsKnown}
+use Rattle.dir_reuse.specs.Coming.{size_behind, Placed, placed_at, Coming, head_of, coming, coming_at, StopsKnown}
 
 -- the items of these names
 abbrev pub entries_of : Listed → List Item
@@ -54,3 +54,15 @@ refusal_of fault = names.Unusable
 pub record Stands (r : ReaderState) : Type 0 where
   pub near : is_live r.stage ≡ true → r.feed.offset ≡ r.place
   pub held : length r.feed.held ≤ 4096
+
+-- the reader is not past the end of the directory whose head was read last, where that has one
+abbrev pub NotPastEnd : ReaderState → Option (List ℕ) → ReaderState → Type 0
+NotPastEnd r None r' = ⊤
+NotPastEnd r (Some l) r' = r'.place ≤ r.place + size_behind (items_left r (window r.feed l)).items
+
+-- After the names of a record the reader goes on. After want of memory too, and then it is not past their end.
+abbrev pub NamesNear : Result Names AllocError → ReaderState → Option (List ℕ) → ReaderState → Type 0
+NamesNear (Ok names.Whole) r left r' = is_live r'.stage ≡ true
+NamesNear (Ok names.Unusable) r left r' = ⊤
+NamesNear (Ok names.Fault) r left r' = ⊤
+NamesNear (Err e) r left r' = (is_live r'.stage ≡ true) × NotPastEnd r left r'

@@ -1,7 +1,7 @@
 -- What a search for a directory comes to.
 use Rattle.std.specs.Prelude.{◌≡◌, ◌≤◌, ℕ, false, true, List, length}
 use Rattle.std.specs.declared.option.Option.{Option}
-use Rattle.std.specs.declared.cmp.Ordering.TheVariants.{Less, Greater}
+use Rattle.std.specs.declared.cmp.Ordering.TheVariants.{Greater}
 use Rattle.path_order.specs.Order.{path_cmp}
 use Rattle.byte_feed.specs.declared.damage.DbFault.{DbFault}
 use Rattle.byte_feed.specs.declared.damage.DbFault.TheVariants as faults

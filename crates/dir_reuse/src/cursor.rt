@@ -9,7 +9,7 @@ ghost use Rattle.tree_scan.specs.Records.{Fitting, bears, is_zero as is_zero_mom
 ghost use Rattle.dir_reuse.specs.Coming.{head_of};
 ghost use Rattle.dir_reuse.specs.Usable.{record_of};
 ghost use Rattle.dir_reuse.specs.Stream.{OpensKnown};
-ghost use Rattle.dir_reuse.specs.Answering.{AnswersTold, CameKnown, CameShows, HasHead, has_failed, is_open, is_sound};
+ghost use Rattle.dir_reuse.specs.Answering.{AnswersTold, ReadsNear, CameKnown, CameShows, HasHead, has_failed, is_open, is_sound};
 
 use crate::naming::{Names, read_names};
 use crate::seeking::{Sought, seek};
@@ -101,6 +101,8 @@ impl Cursor {
         ensures closed { is_open self.old ≡ false → result ≡ Sought.End }
         ensures sound { IsTrue (is_sound self.new) }
         ensures unbroken { self.new.unbroken ≡ (not (has_failed result) && self.old.unbroken) }
+        ensures still { is_open self.old ≡ false → self.new.reader ≡ self.old.reader }
+        ensures drawn { Draws self.old.reader.feed self.new.reader.feed (S.given src.old) (S.given src.new) (S.left src.old) (S.left src.new) }
         ensures fault { IsTrue (has_failed result) → Rose (S.faults src.old) (S.faults src.new) }
         ensures later { S.faults src.old ≤ S.faults src.new }
         ensures kept { S.kept src.old src.new }
@@ -133,6 +135,8 @@ impl Cursor {
         ensures closed { is_open self.old ≡ false → result ≡ Sought.End }
         ensures sound { IsTrue (is_sound self.new) }
         ensures unbroken { self.new.unbroken ≡ (not (has_failed result) && self.old.unbroken) }
+        ensures still { is_open self.old ≡ false → self.new.reader ≡ self.old.reader }
+        ensures drawn { Draws self.old.reader.feed self.new.reader.feed (S.given src.old) (S.given src.new) (S.left src.old) (S.left src.new) }
         ensures fault { IsTrue (has_failed result) → Rose (S.faults src.old) (S.faults src.new) }
         ensures later { S.faults src.old ≤ S.faults src.new }
         ensures kept { S.kept src.old src.new }
@@ -166,6 +170,9 @@ impl Cursor {
         ensures fitting { result ≡ Ok true → Fitting dir.now into.new }
         ensures closed { is_open self.old ≡ false → (is_open self.new ≡ false) × (result ≡ Ok false) }
         ensures sound { IsTrue (is_sound self.new) }
+        ensures near { ReadsNear dir.now self.old (S.left src.old) self.new }
+        ensures still { is_open self.old ≡ false → self.new.reader ≡ self.old.reader }
+        ensures drawn { Draws self.old.reader.feed self.new.reader.feed (S.given src.old) (S.given src.new) (S.left src.old) (S.left src.new) }
         ensures unbroken { IsTrue self.new.unbroken → IsTrue self.old.unbroken }
         ensures broke { (Rose (S.faults src.old) (S.faults src.new) → ⊥) → self.new.unbroken ≡ self.old.unbroken }
         ensures later { S.faults src.old ≤ S.faults src.new }

@@ -8,7 +8,7 @@ ghost use Rattle.mlocate_db.specs.Reader.{is_live};
 ghost use Rattle.tree_scan.specs.Records.{Fitting};
 ghost use Rattle.dir_reuse.specs.Usable.{are_usable};
 ghost use Rattle.dir_reuse.specs.Seeking.{AtHead};
-ghost use Rattle.dir_reuse.specs.Naming.{NamesKnown, Stands, is_whole, refusal_of};
+ghost use Rattle.dir_reuse.specs.Naming.{NamesKnown, NamesNear, Stands, is_whole, refusal_of};
 
 use byte_feed::DbFault;
 use loc_outside::Source;
@@ -78,6 +78,7 @@ pub(crate) fn read_names<S: Source>(
     ensures fitting { result ≡ Ok Names.Whole → Fitting reader.old.path into.new }
     ensures empty { IfOk result (λ names. is_whole names ≡ false → into.new ≡ []) }
     ensures stands { Stands reader.new }
+    ensures near { NamesNear result reader.old (S.left src.old) reader.new }
     ensures dead { result ≡ Ok Names.Fault → is_live reader.new.stage ≡ false }
     ensures drawn { Draws reader.old.feed reader.new.feed (S.given src.old) (S.given src.new) (S.left src.old) (S.left src.new) }
     ensures fault { result ≡ Ok Names.Fault → Rose (S.faults src.old) (S.faults src.new) }

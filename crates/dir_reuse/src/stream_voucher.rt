@@ -1,8 +1,8 @@
 //! A voucher that reads an old database once, forward only.
-ghost use Rattle.std.specs.Prelude.{◌≡◌, ◌≤◌, ◌+◌, ⊤, IsTrue, true, false, refl};
+ghost use Rattle.std.specs.Prelude.{◌≡◌, ◌≤◌, ◌+◌, IsTrue, true, false, refl};
 ghost use Rattle.std.proofs.Common.{◌∙◌};
 ghost use Rattle.loc_outside.specs.Causes.{Rose};
-ghost use Rattle.dir_reuse.specs.Answering.{is_sound};
+ghost use Rattle.dir_reuse.specs.Answering.{ReadsNear, is_open, is_sound};
 ghost use Rattle.byte_feed.specs.Feed.{Draws, empty_at, reach};
 ghost use Rattle.mlocate_db.specs.Reader.{is_live};
 ghost use Rattle.tree_scan.specs.Plans.{plan_of};
@@ -51,7 +51,7 @@ impl<S: Source> Voucher for StreamVoucher<'_, S> {
 
     ghost sound = { λ v. is_sound v.cursor };
 
-    ghost reach = { λ v dir w. ⊤ };
+    ghost reach = { λ v dir w. Draws v.cursor.reader.feed w.cursor.reader.feed (S.given v.src.now) (S.given w.src.now) (S.left v.src.now) (S.left w.src.now) × ReadsNear dir v.cursor (S.left v.src.now) w.cursor × (is_open v.cursor ≡ false → w.cursor.reader ≡ v.cursor.reader) };
 
     ghost kept = { λ v w. (w.src.ghost_name ≡ v.src.ghost_name) × S.kept v.src.now w.src.now × (S.faults v.src.now ≤ S.faults w.src.now) × ((Rose (S.faults v.src.now) (S.faults w.src.now) → ⊥) → w.cursor.unbroken ≡ v.cursor.unbroken) };
 

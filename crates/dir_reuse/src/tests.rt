@@ -17,6 +17,12 @@ const FOUR: &[u8] =
     \0\0\0\0\0\0\x03\xE8\0\0\0\0\0\0\0\0/a/z\0\x02\
     \0\0\0\0\0\0\x03\xE8\0\0\0\0\0\0\0\0/a.b\0\x02";
 
+/// The same header, `/` with two entries `a`, and `/a`.
+const TWICE: &[u8] =
+    b"\0mlocate\0\0\0\x36\0\x01\0\0/\0prune_bind_mounts\x000\0\0prunefs\0\0prunenames\0\0prunepaths\0\0\
+    \0\0\0\0\0\0\x03\xE8\0\0\0\0\0\0\0\0/\0\0a\0\x01a\0\x02\
+    \0\0\0\0\0\0\x03\xE8\0\0\0\0\0\0\0\0/a\0\x01z\0\x02";
+
 /// What is asked of a directory, and what is answered: whether a record vouches, and with how many names.
 #[derive(Clone, Copy)]
 struct Question {
@@ -131,6 +137,35 @@ fn a_directory_without_its_end_is_no_record(rt: HostRuntime) -> Result<(), Fail>
             &FOUR[..118],
             b"/",
             &[ask(b"/", 1000, 0, true, 2), ask(b"/a", 1000, 0, false, 0)]
+        )?
+    );
+    Ok(())
+}
+
+#[test]
+fn names_that_do_not_rise_are_no_record(rt: HostRuntime) -> Result<(), Fail> {
+    assert!(rt;
+        answers(
+            rt.alloc(),
+            TWICE,
+            b"/",
+            &[ask(b"/", 1000, 0, false, 0), ask(b"/a", 1000, 0, true, 1)]
+        )?
+    );
+    Ok(())
+}
+
+#[test]
+fn what_was_passed_does_not_come_back(rt: HostRuntime) -> Result<(), Fail> {
+    assert!(rt;
+        answers(
+            rt.alloc(),
+            FOUR,
+            b"/",
+            &[
+                ask(b"/a.b", 1000, 0, true, 0),
+                ask(b"/a", 1000, 0, false, 0)
+            ]
         )?
     );
     Ok(())

@@ -1,4 +1,4 @@
-use Rattle.std.proofs.Common.{◌≡◌, ◌+◌, length, Ordering, Less, Equal, Greater, is_lt, true, false, refl, sym, arith, ◌∙◌, ap}
+use Rattle.std.proofs.Common.{◌≡◌, Ordering, Less, Equal, Greater, is_lt, false, refl, sym, arith, ◌∙◌, ap}
 use Rattle.dir_reuse.proofs.Names.{usable_push}
 use Rattle.dir_reuse.proofs.naming.may_follow.Goals as goal
 

@@ -1,7 +1,8 @@
-use Rattle.std.proofs.Common.{◌≡◌, ℕ, List, ◌∷◌, [], ◌++◌, IsTrue, true, false, refl, sym, ap, subst, ◌∙◌, arith}
+use Rattle.std.proofs.Common.{◌≡◌, ℕ, List, ◌∷◌, [], ◌++◌, IsTrue, false, refl, sym, ap, subst, ◌∙◌, arith}
 use Rattle.std.proofs.lemmas.List.Elements.{All-push}
 use Rattle.byte_feed.proofs.Draws.{draws_then}
 use Rattle.dir_reuse.proofs.Names.{one_more, last_name, name_fits, names_lost, names_err, names_bad, names_whole, names_refused}
+use Rattle.dir_reuse.proofs.Near.{not_past_end, near_err}
 use Rattle.path_order.specs.declared.kind.Kind.{Kind}
 use Rattle.mlocate_db.specs.Items.{in_directory}
 use Rattle.tree_scan.specs.Admitted.{fits_in}
@@ -74,3 +75,10 @@ returns-in-Err-clause-names g c =
 
 pub returns-in-Err-clause-drawn : goal.returns-in-Err-clause-drawn
 returns-in-Err-clause-drawn g c = draws_then _ _ _ _ _ _ _ _ _ c.names.invariant.drawn c.in-Err.ensures.ahead.drawn
+
+pub returns-in_err-push-in-Ok-Entry-clause-near : goal.returns-in_err-push-in-Ok-Entry-clause-near
+returns-in_err-push-in-Ok-Entry-clause-near g c =
+    let e = c.in-Ok-Entry.ensures in
+    let kind = c.in-Ok-Entry.kind in
+    let m = one_more c.args.reader.now c.names.reader c.advance.new.self c.names.into kind _ _ _ _ _ _ _ c.names.invariant.moved (rw c.in-Ok-Entry.field-0-is at e.step) in
+    near_err c.args.reader.now c.advance.new.self _ _ c.from_residual.ensures.0 (rw c.in-Ok-Entry.field-0-is at e.live) (not_past_end c.args.reader.now c.advance.new.self _ _ _ m)

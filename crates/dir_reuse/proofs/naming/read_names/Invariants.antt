@@ -1,4 +1,4 @@
-use Rattle.std.proofs.Common.{◌≡◌, ◌^◌, ◌-◌, ◌≤◌, ◌++◌, IsTrue, true, All}
+use Rattle.std.proofs.Common.{◌≡◌, ◌^◌, ◌-◌, ◌≤◌, IsTrue, true, All}
 use Rattle.byte_feed.specs.Feed.{Draws}
 use Rattle.byte_feed.specs.Calls.{MovedKnown}
 use Rattle.mlocate_db.specs.declared.db_reader.Stage.TheVariants as stages

@@ -1,4 +1,4 @@
-use Rattle.std.proofs.Common.{refl, sym}
+use Rattle.std.proofs.Common.{sym}
 use Rattle.dir_reuse.proofs.Cursors.{came_on, has_head}
 use Rattle.dir_reuse.proofs.cursor.Cursor.come_to.Goals as goal
 
