@@ -62,7 +62,7 @@ impl Call {
         }
     }
 
-    /// What the run is to do. Words of the tools that are not built yet are bad usage.
+    /// What the run is to do. Words that ask for what is not built yet are bad usage.
     #[tactic(auto, unfolding(crate::specs::Calls::request_of))]
     pub fn task(&self, alloc: Global) -> Result<Task<'_>, WordsFault>
         ensures accepted { IfOk result (λ task. request_of self.now ≡ Some (asked_by task)) }

@@ -9,6 +9,10 @@ use Rattle.clap.specs.declared.builder.action.ArgAction.TheVariants.{Append, Cou
 abbrev pub flag : Text → Text → Rule
 flag name letter = record (new_rule name) { short = slice_get letter 0; long = Some name; action = Some Count }
 
+-- the same with a long name alone
+abbrev pub long_flag : Text → Rule
+long_flag name = record (new_rule name) { long = Some name; action = Some Count }
+
 -- a flag with a letter alone, which may be repeated
 abbrev pub short_flag : Text → Text → Rule
 short_flag id letter = record (new_rule id) { short = slice_get letter 0; action = Some Count }
@@ -81,6 +85,8 @@ locate_command = command (codes "locate") (
     ∷ flag (codes "wholename") (codes "w")
     ∷ flag (codes "mmap") (codes "m")
     ∷ flag (codes "stdio") (codes "s")
+    ∷ long_flag (codes "regex")
+    ∷ option (codes "regexp") (codes "r")
     ∷ option (codes "database") (codes "d")
     ∷ option (codes "limit") (codes "l")
     ∷ short_option (codes "n") (codes "n")

@@ -1,5 +1,5 @@
 -- What the words of `locate` ask for.
-use Rattle.std.specs.Prelude.{ℕ, Bool, List, [], ◌∷◌, ◌++◌, Option, Some, None, codes, length, nat_lt, not, ◌==◌, ◌&&◌, ◌||◌, if◌then◌else◌}
+use Rattle.std.specs.Prelude.{ℕ, Bool, List, [], ◌∷◌, ◌++◌, Option, Some, None, codes, is_some, length, nat_lt, not, ◌==◌, ◌&&◌, ◌||◌, if◌then◌else◌}
 use Rattle.clap.specs.Words.{Row, Text}
 use Rattle.tool_words.specs.Commands.{locate_command}
 use Rattle.tool_words.specs.Matches.{asked_by, is_given, is_used, value_of, values_of}
@@ -27,20 +27,29 @@ pub record LocateAsked : Type 0 where
   pub limit : Option ℕ
   pub databases : List Text
   pub patterns : List Text
+  -- the patterns are extended expressions
+  pub regex : Bool
+  -- the basic expression that stands in place of patterns
+  pub regexp : Option Text
 
 -- a last symbolic link is not to be followed
 abbrev pub keeps_link : List Row → Bool
 keeps_link m = is_used (codes "nofollow") m || is_used (codes "H") m
 
--- two are given that exclude each other: -b and -w, -L and -P or -H, -l and -n
+-- there is a PATTERN
+abbrev pub has_pattern : List Row → Bool
+has_pattern m = not (length (values_of (codes "PATTERN") m) == 0)
+
+-- two are given that exclude each other: -b and -w, -L and -P or -H, -l and -n, -r and a PATTERN or --regex
 abbrev pub has_conflict : List Row → Bool
 has_conflict m = (is_used (codes "basename") m && is_used (codes "wholename") m)
     || ((is_used (codes "follow") m && keeps_link m)
-    || (is_given (codes "limit") m && is_given (codes "n") m))
+    || ((is_given (codes "limit") m && is_given (codes "n") m)
+    || (is_given (codes "regexp") m && (is_used (codes "regex") m || has_pattern m))))
 
--- there is neither a pattern nor -S
+-- there is no PATTERN, no -r and no -S
 abbrev pub lacks_pattern : List Row → Bool
-lacks_pattern m = not (is_used (codes "statistics") m) && length (values_of (codes "PATTERN") m) == 0
+lacks_pattern m = not (is_used (codes "statistics") m) && (not (is_given (codes "regexp") m) && not (has_pattern m))
 
 -- the word of the limit, by either name
 abbrev pub either_value : Option Text → Option Text → Option Text
@@ -83,7 +92,13 @@ settings_with m databases limit = record {
   limit = limit;
   databases = databases;
   patterns = values_of (codes "PATTERN") m;
+  regex = is_used (codes "regex") m;
+  regexp = value_of (codes "regexp") m;
 }
+
+-- regular expressions are searched for: with -S none is read
+abbrev pub seeks_expressions : LocateAsked → Bool
+seeks_expressions asked = not asked.statistics && (asked.regex || is_some asked.regexp)
 
 -- the settings, where the rules are kept
 unfoldable pub settings_of : List Row → List Text → Option LocateAsked

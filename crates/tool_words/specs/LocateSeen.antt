@@ -1,5 +1,5 @@
 -- The settings of `locate`, as contracts see them.
-use Rattle.std.specs.Prelude.{map}
+use Rattle.std.specs.Prelude.{map, option_map}
 use Rattle.tool_words.specs.Locate.{LocateAsked}
 use Rattle.tool_words.specs.declared.settings.LocateSettings.{LocateSettings}
 
@@ -17,4 +17,6 @@ seen s = record {
   limit = s.limit;
   databases = map (λ t. t.now) s.databases.items;
   patterns = map (λ t. t.now) s.patterns.items;
+  regex = s.regex;
+  regexp = option_map (λ t. t.now) s.regexp;
 }

@@ -1,7 +1,7 @@
 //! The commands of the tools, made for clap.
 ghost use Rattle.std.specs.Prelude.{◌≡◌, ◌∷◌, [], IfOk};
 ghost use Rattle.clap.specs.Words.{app_of};
-ghost use Rattle.tool_words.specs.Commands.{bare, convert_command as command_of_convert, exercise_command as command_of_exercise, flag, locate_command as command_of_locate, long_option, needed_option, needed_word, option, short_flag, short_option, updatedb_command as command_of_updatedb, with_argument, words_left};
+ghost use Rattle.tool_words.specs.Commands.{bare, convert_command as command_of_convert, exercise_command as command_of_exercise, flag, locate_command as command_of_locate, long_flag, long_option, needed_option, needed_word, option, short_flag, short_option, updatedb_command as command_of_updatedb, with_argument, words_left};
 
 use clap::{Arg, ArgAction, Command};
 use std::alloc::{AllocError, Global};
@@ -30,6 +30,17 @@ fn with_flag<'a>(
             .long(name)
             .action(ArgAction::Count),
     )
+}
+
+#[tactic(auto, unfolding(crate::specs::Commands::with_argument))]
+fn with_long_flag<'a>(
+    alloc: Global,
+    command: Command<'a>,
+    name: &'a str,
+) -> Result<Command<'a>, AllocError>
+    ensures { IfOk result (λ r. app_of r ≡ with_argument (app_of command.entry) (long_flag name.entry.now)) }
+{
+    command.arg(Arg::new(alloc, name).long(name).action(ArgAction::Count))
 }
 
 #[tactic(auto, unfolding(crate::specs::Commands::with_argument))]
@@ -162,6 +173,8 @@ pub(crate) fn locate_command<'a>(alloc: Global) -> Result<Command<'a>, AllocErro
     let command = with_flag(alloc, command, "wholename", 'w')?;
     let command = with_flag(alloc, command, "mmap", 'm')?;
     let command = with_flag(alloc, command, "stdio", 's')?;
+    let command = with_long_flag(alloc, command, "regex")?;
+    let command = with_option(alloc, command, "regexp", 'r')?;
     let command = with_option(alloc, command, "database", 'd')?;
     let command = with_option(alloc, command, "limit", 'l')?;
     let command = with_short_option(alloc, command, "n", 'n')?;

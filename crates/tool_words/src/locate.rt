@@ -1,8 +1,8 @@
 //! The words of `locate`.
-ghost use Rattle.std.specs.Prelude.{◌≡◌, ◌≤◌, IfOk, Option, Some, None, map, codes, option_map, string_bytes, vec_len};
-ghost use Rattle.tool_words.specs.Matches.{found_in, values_of as values_in};
+ghost use Rattle.std.specs.Prelude.{◌≡◌, ◌≤◌, ◌&&◌, ◌||◌, IfOk, Option, Some, None, map, codes, option_map, string_bytes, vec_len};
+ghost use Rattle.tool_words.specs.Matches.{found_in, is_given as given, is_used as uses, values_of as values_in};
 ghost use Rattle.tool_words.specs.Values.{number_word as number_of_word, read_by};
-ghost use Rattle.tool_words.specs.Locate.{breaks_rule as rule_broken, databases_of as databases_by, given_names as names_given, has_conflict as conflicts, keeps_link as link_kept, limit_value as word_of_limit, locate_asked as asked_of_locate, path_names as names_of_path, settings_of as settings_by, settings_with as settings_by_parts};
+ghost use Rattle.tool_words.specs.Locate.{breaks_rule as rule_broken, databases_of as databases_by, given_names as names_given, has_conflict as conflicts, has_pattern as pattern_stands, lacks_pattern as pattern_lacks, keeps_link as link_kept, limit_value as word_of_limit, locate_asked as asked_of_locate, path_names as names_of_path, settings_of as settings_by, settings_with as settings_by_parts};
 ghost use Rattle.tool_words.specs.LocateSeen.{seen};
 
 use crate::commands::locate_command;
@@ -18,7 +18,16 @@ fn keeps_link(matches: &ArgMatches<'_>) -> bool
     is_used(matches, "nofollow") || is_used(matches, "H")
 }
 
-fn has_conflict(matches: &ArgMatches<'_>) -> bool
+/// Whether `-r` stands with a PATTERN or with `--regex`.
+fn mixes_expressions(matches: &ArgMatches<'_>, patterns: &[&str]) -> bool
+    requires { map (λ t. t.now) patterns.now ≡ values_in (codes "PATTERN") (found_in matches.now) }
+    ensures { result ≡ (given (codes "regexp") (found_in matches.now) && (uses (codes "regex") (found_in matches.now) || pattern_stands (found_in matches.now))) }
+{
+    value_of(matches, "regexp").is_some() && (is_used(matches, "regex") || !patterns.is_empty())
+}
+
+fn has_conflict(matches: &ArgMatches<'_>, patterns: &[&str]) -> bool
+    requires { map (λ t. t.now) patterns.now ≡ values_in (codes "PATTERN") (found_in matches.now) }
     ensures { result ≡ conflicts (found_in matches.now) }
 {
     if is_used(matches, "basename") && is_used(matches, "wholename") {
@@ -27,17 +36,28 @@ fn has_conflict(matches: &ArgMatches<'_>) -> bool
     if is_used(matches, "follow") && keeps_link(matches) {
         return true;
     }
-    value_of(matches, "limit").is_some() && value_of(matches, "n").is_some()
+    if value_of(matches, "limit").is_some() && value_of(matches, "n").is_some() {
+        return true;
+    }
+    mixes_expressions(matches, patterns)
+}
+
+/// Whether there is no PATTERN, no `-r` and no `-S`.
+fn lacks_pattern(matches: &ArgMatches<'_>, patterns: &[&str]) -> bool
+    requires { map (λ t. t.now) patterns.now ≡ values_in (codes "PATTERN") (found_in matches.now) }
+    ensures { result ≡ pattern_lacks (found_in matches.now) }
+{
+    !is_used(matches, "statistics") && value_of(matches, "regexp").is_none() && patterns.is_empty()
 }
 
 fn breaks_rule(matches: &ArgMatches<'_>, databases: &[&str], patterns: &[&str]) -> bool
     requires { map (λ t. t.now) patterns.now ≡ values_in (codes "PATTERN") (found_in matches.now) }
     ensures { result ≡ rule_broken (found_in matches.now) (map (λ t. t.now) databases.now) }
 {
-    if has_conflict(matches) {
+    if has_conflict(matches, patterns) {
         return true;
     }
-    if !is_used(matches, "statistics") && patterns.is_empty() {
+    if lacks_pattern(matches, patterns) {
         return true;
     }
     databases.len() > MAX_DATABASES
@@ -124,6 +144,8 @@ fn settings_with<'a>(
         limit,
         databases,
         patterns,
+        regex: is_used(matches, "regex"),
+        regexp: value_of(matches, "regexp"),
     }
 }
 

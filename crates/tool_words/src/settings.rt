@@ -79,7 +79,24 @@ pub struct LocateSettings<'a> {
     pub databases: Vec<&'a str>,
     /// The patterns as they stand.
     pub patterns: Vec<&'a str>,
+    /// The patterns are extended regular expressions.
+    pub regex: bool,
+    /// The basic regular expression that stands in place of patterns.
+    pub regexp: Option<&'a str>,
     pub ghost few: { vec_len databases ≤ 4096 },
+}
+
+impl<'a> LocateSettings<'a> {
+    ghost use Rattle.std.specs.Prelude.{◌≡◌};
+    ghost use Rattle.tool_words.specs.Locate.{seeks_expressions};
+    ghost use Rattle.tool_words.specs.LocateSeen.{seen};
+
+    /// Whether paths are searched for regular expressions. With statistics none is read.
+    pub fn seeks_expressions(&self) -> bool
+        ensures { result ≡ seeks_expressions (seen self.now) }
+    {
+        !self.statistics && (self.regex || self.regexp.is_some())
+    }
 }
 
 /// What the words of `convert` ask for.

@@ -60,6 +60,17 @@ fn refused_words_of_locate(rt: HostRuntime) -> Result<(), AllocError> {
         "locate -S -L -P",
         "locate -S -l 1 -n 1",
         "locate -S -l x",
+        "locate --regex",
+        "locate -r",
+        "locate -r a b",
+        "locate b -r a",
+        "locate --regex -r a",
+        "locate -r a --regexp b",
+        "locate -r a -r b",
+        "locate -S -r a b",
+        "locate -S -r a --regex",
+        "locate --regex=a b",
+        "locate --rege a",
     ] {
         assert!(rt; is_usage(rt.alloc(), line)?, "{line}");
     }
@@ -86,6 +97,14 @@ fn accepted_words_of_locate(rt: HostRuntime) -> Result<(), AllocError> {
         "locate -m -s -w a",
         "locate -L a",
         "locate -PH a",
+        "locate --regex a",
+        "locate --regex --regex a b",
+        "locate -r a",
+        "locate --regexp=-a",
+        "locate --regexp=",
+        "locate -bir a",
+        "locate -S -r a",
+        "locate -S --regex",
     ] {
         assert!(rt; is_accepted(rt.alloc(), line)?, "{line}");
     }
@@ -207,6 +226,28 @@ fn settings_of_locate(rt: HostRuntime) -> Result<(), AllocError> {
     assert!(rt; !s.fold && s.separator == b'\n' && !s.quiet && !s.statistics);
     assert_eq!(rt; s.limit, None);
     assert!(rt; s.databases.as_slice() == [DEFAULT_DATABASE].as_slice());
+    Ok(())
+}
+
+#[test]
+fn expressions_of_locate(rt: HostRuntime) -> Result<(), AllocError> {
+    let words = words_of(rt.alloc(), "locate --regex a b")?;
+    let Some(s) = locate(rt.alloc(), words.as_slice(), None) else {
+        panic!(rt; "refused");
+    };
+    assert!(rt; s.regex && s.regexp.is_none() && s.seeks_expressions());
+    assert!(rt; s.patterns.as_slice() == ["a", "b"].as_slice());
+    let words = words_of(rt.alloc(), "locate -r a")?;
+    let Some(s) = locate(rt.alloc(), words.as_slice(), None) else {
+        panic!(rt; "refused");
+    };
+    assert!(rt; !s.regex && s.regexp == Some("a") && s.seeks_expressions());
+    assert!(rt; s.patterns.is_empty());
+    let words = words_of(rt.alloc(), "locate -S --regexp=")?;
+    let Some(s) = locate(rt.alloc(), words.as_slice(), None) else {
+        panic!(rt; "refused");
+    };
+    assert!(rt; s.regexp == Some("") && !s.seeks_expressions());
     Ok(())
 }
 

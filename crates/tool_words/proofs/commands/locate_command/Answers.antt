@@ -4,7 +4,9 @@ use Rattle.tool_words.proofs.commands.locate_command.Goals as goal
 
 pub returns : goal.returns
 unfolding locate_command
-returns c = step _ _ _ _ c.in_ok-command-18.ensures
+returns c = step _ _ _ _ c.in_ok-command-20.ensures
+    (step _ _ _ _ c.in_ok-command-19.ensures
+    (step _ _ _ _ c.in_ok-command-18.ensures
     (step _ _ _ _ c.in_ok-command-17.ensures
     (step _ _ _ _ c.in_ok-command-16.ensures
     (step _ _ _ _ c.in_ok-command-15.ensures
@@ -21,4 +23,4 @@ returns c = step _ _ _ _ c.in_ok-command-18.ensures
     (step _ _ _ _ c.in_ok-command-4.ensures
     (step _ _ _ _ c.in_ok-command-3.ensures
     (step _ _ _ _ c.in_ok-command-2.ensures
-    (step _ _ _ _ c.in_ok-command.ensures (c.bare_command-command.ensures))))))))))))))))))
+    (step _ _ _ _ c.in_ok-command.ensures (c.bare_command-command.ensures))))))))))))))))))))
