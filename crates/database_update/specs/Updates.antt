@@ -40,7 +40,7 @@ pub record Around : Type 0 where
   pub held_back : ℕ
   pub writes_failed : ℕ
 
--- That the tree, the output, and what lines are echoed to are just as they were.
+-- Three propositions: that the tree, the output and the echo are unchanged.
 pub record Same : Type 1 where
   pub tree : Type 0
   pub output : Type 0
@@ -54,7 +54,8 @@ abbrev pub Planned : UpdatedbAsked → Around → (Dirs → Plan → Type 0) →
 Planned asked a holds = WherePlanned a.files a.dirs asked holds
 
 -- After Ok: the stored files are those at entry, with the complete scan under the name of the output; with `verbose`, all
--- that was echoed has gone out; no other name was begun; the two settings files were read once.
+-- that was echoed has gone out; no other name was begun; the bytes read are those of one reading of both
+-- settings files.
 pub record Stored (asked : UpdatedbAsked) (now : Moment) (counts : Counts) (a a' : Around) : Type 0 where
   pub accepted : (files : Files) → a.files ≡ Some files → IsOk (plan_in files asked)
   pub stored : Planned asked a (λ dirs plan. a'.held ≡ option_map (with_file asked.output (scan_text dirs plan now)) a.held)
@@ -82,7 +83,7 @@ pub record Caused (asked : UpdatedbAsked) (a a' : Around) (fault : UpdateFault) 
   pub found : (dirs : Dirs) → a.dirs ≡ Some dirs → ScanFound fault asked.root dirs
   pub exceeded : Planned asked a (λ dirs plan. ScanExceeded fault dirs plan)
 
--- Which answers there must be: a refusal where the settings are refused, RootMissing where there is no root, unless a call
+-- Which results are required: a refusal where the settings are refused, RootMissing where there is no root, unless a call
 -- failed or memory ran out; Ok where nothing is refused, no call failed and no limit is passed, unless memory ran out.
 pub record Required (asked : UpdatedbAsked) (a a' : Around) (result : Result Counts UpdateFault) : Type 0 where
   pub refuses : (files : Files) (fault : UpdateFault) → a.files ≡ Some files → plan_in files asked ≡ Err fault

@@ -11,7 +11,7 @@ use Rattle.locate_engine.specs.Sought.{Sought}
 use Rattle.locate_tools.specs.LocateExact.{work_by}
 use Rattle.locate_tools.specs.Tried.{Tried, work_for}
 use Rattle.locate_tools.specs.declared.databases.Work.{Work as WorkAsked}
-use Rattle.locate_tools.specs.Works.{Work, Search, Statistics}
+use Rattle.locate_tools.specs.Work.{Work, Search, Statistics}
 use Rattle.locate_tools.specs.Told.{TellsAs, outcome_messages, messages}
 use Rattle.locate_tools.specs.Messages.{outcome_message}
 

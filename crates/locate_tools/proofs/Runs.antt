@@ -16,7 +16,7 @@ use Rattle.locate_tools.specs.declared.answer.Cause.{Cause}
 use Rattle.locate_tools.specs.declared.answer.Cause.TheVariants as causes
 use Rattle.locate_tools.specs.Standing.{Standing, Goes, IsComplete}
 use Rattle.locate_tools.specs.Tried.{Tried, TriedCount, TriedSearch, Moves, NoneFailed}
-use Rattle.locate_tools.specs.Works.{Work, Search, Statistics}
+use Rattle.locate_tools.specs.Work.{Work, Search, Statistics}
 use Rattle.locate_tools.specs.LocateExact.{World, Locates, LocatesIn, may_ask_gate, lines_of, number_of, asks_nothing, databases_of, query_of, found, endings, cause_of, sought_by, work_by, work_of}
 use Rattle.locate_tools.specs.LocateRun.{LocateRan, LocateRun, is_write_fault, is_read_fault, is_gate_fault}
 use Rattle.locate_tools.specs.Counted.{CountsAll, statistics_at}

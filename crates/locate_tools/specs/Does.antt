@@ -36,7 +36,7 @@ standing_in o = record {
 
 -- ---- by what the words ask for
 
--- The words ask for nothing: the run ends with that, unless memory ran out before it was seen.
+-- The command line is invalid, or its tool is not built: the run ends with `Usage`, or with `OutOfMemory`.
 pub record Refuses (ending : Ending) : Type 0 where
   pub cause : (ending.cause ≡ causes.Usage) ⊎ (ending.cause ≡ causes.OutOfMemory)
   pub outcomes : ending.outcomes ≡ []

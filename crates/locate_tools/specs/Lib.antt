@@ -5,7 +5,7 @@ pub mod Told
 pub mod Statuses
 pub mod Standing
 pub mod LocateExact
-pub mod Works
+pub mod Work
 pub mod Tried
 pub mod Counted
 pub mod LocateRun

@@ -16,7 +16,7 @@ use Rattle.any_db.specs.Formats.{contents, is_gated}
 use Rattle.locate_engine.specs.declared.query.Query.{Query}
 use Rattle.locate_engine.specs.declared.outcome.Outcome.{Outcome}
 use Rattle.locate_engine.specs.declared.outcome.Outcome.TheVariants as outcomes
-use Rattle.locate_tools.specs.Works.{Work, Search, Statistics}
+use Rattle.locate_tools.specs.Work.{Work, Search, Statistics}
 use Rattle.locate_tools.specs.declared.answer.Cause.{Cause}
 use Rattle.locate_tools.specs.declared.answer.Cause.TheVariants as causes
 

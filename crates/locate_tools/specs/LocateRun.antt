@@ -26,12 +26,12 @@ numbers asked = if asked.statistics then false else asked.count_only
 abbrev pub number_text : LocateAsked → ℕ → List ℕ
 number_text asked matched = if numbers asked then decimal matched ++ 10 ∷ [] else []
 
--- why a run ends in which no write failed
+-- the cause of a run in which no write failed
 abbrev pub cause_after : LocateAsked → ℕ → Cause
 cause_after asked matched = if asked.statistics then causes.Done else cause_of asked.limit matched
 
--- The end of a run, after its databases: a failed write ends it; else the number of paths is written where it is asked
--- for and has gone out, and the cause is told by what was found, unless that write fails.
+-- The end of a run, after its databases: a failed write ends it; otherwise the number of paths, where it is asked for, is
+-- written and has gone out, and the cause is told by what was found, unless that write fails.
 pub record Concludes (asked : LocateAsked) (outcomes : List Outcome) (matched : ℕ) (taken taken' : Option (List ℕ)) (held held' failed failed' : ℕ) (cause : Cause) : Type 0 where
   pub later : failed ≤ failed'
   pub stops : list_any is_write_fault outcomes ≡ true → (cause ≡ causes.WriteFault) × (taken' ≡ taken)
@@ -60,11 +60,12 @@ abbrev pub is_gate_fault : Outcome → Bool
 is_gate_fault outcomes.GateFault = true
 is_gate_fault outcome = false
 
--- A run of `locate`, and when its answers come. Where memory ran out there are no outcomes. Where no call failed, exactly
--- what the files and the gate's tests say was printed and answered, whatever the tests are where the gate is not asked; or
--- exactly the statistics of the files were written. No more outcomes tell of a failed read, or of a failed gate, than such
--- calls failed, up to the last count that can be told. A failed write is the cause where it is an outcome, and else only
--- where the number of paths is written; where no write failed, nothing is held back that was not before.
+-- A run of `locate`, and the conditions for each of its results. Where memory ran out there are no outcomes. Where no call
+-- failed, exactly what the files and the gate's tests say was printed and answered, whatever the tests are where the gate is
+-- not asked; or exactly the statistics of the files were written. There are no more outcomes of a failed read, or of a
+-- failed gate, than such calls failed, up to the last count that can be told. A failed write is the cause where it is an
+-- outcome, and else only where the number of paths is written; where no write failed, nothing is held back that was not
+-- before.
 pub record LocateRun (asked : LocateAsked) (s s' : Standing) (outcomes : List Outcome) (cause : Cause) : Type 0 where
   pub no_memory : cause ≡ causes.OutOfMemory → outcomes ≡ []
   pub ran : (cause ≡ causes.OutOfMemory → ⊥) → LocateRan asked s s' outcomes cause

@@ -8,7 +8,8 @@ use Rattle.locate_engine.specs.declared.outcome.Outcome.TheVariants as outcomes
 
 -- Where a run of `locate` stands: of its reader the files, how many bytes it has given and how often it has failed; of its
 -- gate its tests, how often it was asked and has failed; of standard output the bytes taken, how many of them it holds back
--- and how often it has failed; and how many paths were found. What is optional is known only where the object tells it.
+-- and how often it has failed; and how many paths were found. An optional field is `None`
+-- where the object does not tell it.
 pub record Standing : Type 0 where
   pub files : Option Files
   pub given : ℕ

@@ -15,7 +15,7 @@ use Rattle.locate_engine.specs.declared.outcome.Outcome.{Outcome}
 use Rattle.locate_engine.specs.declared.outcome.Outcome.TheVariants as outcomes
 use Rattle.locate_tools.specs.Messages.{statistics_text}
 use Rattle.locate_tools.specs.Standing.{Standing, ends_run, sight_in}
-use Rattle.locate_tools.specs.Works.{Work, Search, Statistics}
+use Rattle.locate_tools.specs.Work.{Work, Search, Statistics}
 use Rattle.locate_tools.specs.declared.databases.Work.{Work as WorkAsked}
 use Rattle.locate_tools.specs.declared.databases.Work.TheVariants as works
 
@@ -98,7 +98,7 @@ pub record TriedSearch (sought : Sought) (query : Query) (name : List ℕ) (s : 
 
 -- ---- statistics
 
--- statistics are written of a database that ends so
+-- whether statistics are written of a database with this outcome
 abbrev pub has_statistics : Outcome → Bool
 has_statistics outcomes.Missing = false
 has_statistics outcomes.NotADatabase = false

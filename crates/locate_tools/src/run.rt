@@ -152,11 +152,12 @@ fn run_updatedb<R: Reader, T: Tree, O: Output, P: BufferedSink, E: Sink>(
     )
 }
 
-/// Does what the words ask for. `updatedb` stores a complete scan of a tree under the name of its output, and leaves the
-/// stored files as they were on every cause but `Done`. `locate` prints the paths of its databases that match, or writes
-/// their statistics, and tells on `err` how each ended; all its memory is taken before the first is opened. What was
-/// written to `out` is passed on after each database, and before a message about it. Where the cause is not `Done` or `NoMatch`, a message on `err`
-/// tells it. A failed write to `err` changes no answer, and nothing more is written there.
+/// Does what the words ask for. `updatedb` stores a complete scan of a tree under the name of its output; on any cause
+/// other than `Done` the stored files are unchanged. `locate` prints the paths of its databases that match, or writes their
+/// statistics, and, unless it is told to be quiet, reports on `err` each database that is missing, no database, damaged, too
+/// large or failed; all its memory is taken before the first is opened. What was written to `out` is passed on after each
+/// database, and before a message about it. A cause other than `Done` and `NoMatch` is reported on `err`. A failed write to
+/// `err` does not affect the result; nothing more is written there.
 pub fn run<R: Reader, T: Tree, G: Gate, O: Output, P: BufferedSink, E: Sink>(
     alloc: Global,
     call: &Call,
