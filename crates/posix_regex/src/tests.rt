@@ -248,6 +248,10 @@ yynn a|z /z
 yyyy a|z a|z
 yynn (a*)*b aaab
 nnnn (a*)*b aaaa
+yynn ^(ab)*$ abab
+nnnn ^(ab)*$ abb
+nnyy ^\(ab\)*$ abab
+nnnn ^\(ab\)*$ abb
 yyyy a*b b
 yynn ^(ab|cd){2}$ abcd
 nnnn ^(ab|cd){2}$ ab
