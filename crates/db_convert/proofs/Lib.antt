@@ -1,5 +1,9 @@
+mod Pieces
+mod ReadPaths
+mod CutTexts
 pub mod Sets
 pub mod DatabaseItems
 pub mod Directories
 mod ReadBack
+mod Refused
 mod Example
