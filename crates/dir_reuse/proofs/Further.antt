@@ -1,5 +1,5 @@
 -- How far a reader has come when it stops.
-use Rattle.std.proofs.Common.{◌≡◌, Bool, true, false, IsTrue, refl, sym, ap, ◌∙◌}
+use Rattle.std.proofs.Common.{◌≡◌, true, false, IsTrue, refl, sym, ap, ◌∙◌}
 use Rattle.byte_feed.specs.declared.damage.DbFault.{DbFault}
 use Rattle.byte_feed.specs.declared.damage.DbFault.TheVariants as faults
 use Rattle.mlocate_db.specs.Reader.{ReaderState}

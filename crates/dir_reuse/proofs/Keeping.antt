@@ -1,5 +1,5 @@
 -- What is kept of an old database that is read head by head.
-use Rattle.std.proofs.Common.{◌≡◌, ℕ, Bool, true, false, cond, not, List, [], ◌∷◌, ◌++◌, map, filter, length, Option, Some, None, Ok, Contains, IfSome, MatchBool, refl, sym, ap, ◌∙◌, subst, arith, append_assoc, append-nil, is_lt}
+use Rattle.std.proofs.Common.{◌≡◌, ℕ, Bool, true, false, cond, not, List, [], ◌∷◌, ◌++◌, map, filter, Option, Some, None, Ok, Contains, IfSome, MatchBool, refl, sym, ap, ◌∙◌, subst, arith, append_assoc, append-nil, is_lt}
 use Rattle.std.specs.Prelude.{◌||◌, option_to_list, ⊤}
 use Rattle.std.proofs.lemmas.Bool.{and_parts, cases_lt}
 use Rattle.std.specs.Option.{option_map}
@@ -13,13 +13,12 @@ use Rattle.path_order.specs.NameList.{Listed}
 use Rattle.path_order.specs.Order.{path_cmp}
 use Rattle.byte_feed.specs.Front.{Window}
 use Rattle.byte_feed.specs.Feed.{window}
-use Rattle.mlocate_db.specs.Reader.{ReaderState}
 use Rattle.tree_scan.specs.Records.{Record}
 use Rattle.dir_reuse.specs.declared.cursor.Cursor.{Cursor}
 use Rattle.dir_reuse.specs.declared.naming.Names.TheVariants as names
 use Rattle.dir_reuse.specs.Usable.{is_ordered, record_of, records}
-use Rattle.dir_reuse.specs.Coming.{Placed, Coming, coming, coming_at, head_of, not_before, records_to_come, Skips}
-use Rattle.dir_reuse.specs.Naming.{NamesKnown, TakenKnown, with_own}
+use Rattle.dir_reuse.specs.Coming.{Placed, Coming, coming, head_of, not_before, records_to_come, Skips}
+use Rattle.dir_reuse.specs.Naming.{NamesKnown, TakenKnown}
 use Rattle.dir_reuse.specs.Answering.{HasHead, SkipsKnown, ahead, is_open, is_sound}
 use Rattle.dir_reuse.specs.Stream.{OpensKnown, is_known_ordered, known, known_by}
 use Rattle.dir_reuse.specs.Keeping.{AllKept, AreSome, GivesKnown, SomeKept, StaysKnown}

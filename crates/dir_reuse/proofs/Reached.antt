@@ -1,5 +1,5 @@
 -- What a walk comes to: paths that are normal and rise, each with the directory that stands there.
-use Rattle.std.proofs.Common.{◌≡◌, ℕ, zero, suc, Bool, true, List, [], ◌∷◌, map, filter, flat_map, subst, Some}
+use Rattle.std.proofs.Common.{◌≡◌, ℕ, zero, suc, Bool, true, List, filter, subst, Some}
 use Rattle.std.specs.FinMap.{get, entries}
 use Rattle.path_order.specs.declared.kind.Kind.{Kind}
 use Rattle.path_order.specs.Path.{is_normal, joined}

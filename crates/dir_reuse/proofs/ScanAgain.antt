@@ -1,14 +1,14 @@
 -- Which directories of a scan its records vouch for while the tree stays the same: those whose time was written.
-use Rattle.std.proofs.Common.{◌≡◌, ℕ, Bool, true, false, cond, eqb, not, ◌&&◌, ◌||◌, List, [], ◌∷◌, map, filter, Option, Some, None, refl, sym, ap, ◌∙◌, subst, inl, inr, ◌⊎◌, arith}
+use Rattle.std.proofs.Common.{◌≡◌, ℕ, Bool, true, false, cond, eqb, not, ◌&&◌, ◌||◌, List, [], ◌∷◌, map, filter, Some, None, refl, sym, ap, ◌∙◌, subst, inl, inr, ◌⊎◌}
 use Rattle.std.specs.List.{list_any}
 use Rattle.std.specs.Option.{option_map_or}
 use Rattle.std.specs.Str.{bytes_eq}
 use Rattle.std.specs.Cmp.Lexicographic.{bytes_decides}
 use Rattle.std.specs.FinMap.{get}
-use Rattle.std.proofs.lemmas.Bool.{and_from, and_parts, cases_Bool, eq-eqb, eqb-true, or_cases}
+use Rattle.std.proofs.lemmas.Bool.{and_from, and_parts, eq-eqb, eqb-true, or_cases}
 use Rattle.path_order.specs.Stamp.{Moment, is_recent}
 use Rattle.loc_outside.specs.Trees.{Dir, Dirs}
-use Rattle.tree_scan.specs.Blocks.{scan_text, stamped, time_of, zero_moment}
+use Rattle.tree_scan.specs.Blocks.{scan_text, time_of, zero_moment}
 use Rattle.tree_scan.specs.Plan.{Plan}
 use Rattle.tree_scan.specs.Reach.{is_open, reached}
 use Rattle.tree_scan.specs.Records.{Record, bears, is_moment, is_vouched, is_zero, unvouched}

@@ -1,5 +1,5 @@
 -- The records of a scan can be relied on, also where it is cut off.
-use Rattle.std.proofs.Common.{◌≡◌, ℕ, Bool, true, false, cond, not, ◌&&◌, Contains, List, [], ◌∷◌, ◌++◌, length, Option, Some, refl, sym, ap, ◌∙◌, subst, All}
+use Rattle.std.proofs.Common.{◌≡◌, ℕ, Bool, true, false, cond, not, ◌&&◌, List, [], ◌∷◌, ◌++◌, Some, refl, sym, ap, ◌∙◌, subst, All}
 use Rattle.std.specs.List.{flat_map}
 use Rattle.std.specs.Str.{bytes_eq}
 use Rattle.std.specs.FinMap.{get}
@@ -9,7 +9,7 @@ use Rattle.path_order.specs.NameList.{Listed}
 use Rattle.path_order.specs.Stamp.{Moment}
 use Rattle.loc_outside.specs.Trees.{Dir, Dirs}
 use Rattle.byte_feed.specs.Front.{front}
-use Rattle.mlocate_db.specs.Items.{Head, HeaderItem, HeadItem, EntryItem, EndItem, Item, mlocate}
+use Rattle.mlocate_db.specs.Items.{HeaderItem, HeadItem, EntryItem, EndItem, Item, mlocate}
 use Rattle.tree_scan.specs.Admitted.{admitted}
 use Rattle.tree_scan.specs.Blocks.{scan_text}
 use Rattle.tree_scan.specs.Plan.{Plan}
@@ -17,10 +17,10 @@ use Rattle.tree_scan.specs.Reach.{is_open, is_tried, reached, tried}
 use Rattle.tree_scan.specs.Records.{Honest, Record}
 use Rattle.tree_scan.proofs.Lists.{Each, each_append, each_more}
 use Rattle.dir_reuse.specs.Naming.{entries_of}
-use Rattle.dir_reuse.specs.Scanned.{block_items, header_item, scan_items, IsPlan}
+use Rattle.dir_reuse.specs.Scanned.{block_items, header_item, IsPlan}
 use Rattle.dir_reuse.specs.Usable.{are_usable, has_end, leading_entries, record_of, records, records_if_same_setup, records_in}
 use Rattle.dir_reuse.proofs.Reached.{IsFound, led_found}
-use Rattle.dir_reuse.proofs.ScanParts.{Alike, SameItem, scan_alike}
+use Rattle.dir_reuse.proofs.ScanParts.{Alike, scan_alike}
 
 -- ---- the records of a first part
 

@@ -1,5 +1,5 @@
 -- The items of a scan: how they are spelled, and that they may follow one another.
-use Rattle.std.proofs.Common.{◌≡◌, ℕ, ◌+◌, ◌-◌, ◌<◌, ◌≤◌, ◌^◌, Bool, true, false, cond, All, List, [], ◌∷◌, ◌++◌, length, refl, sym, ap, ◌∙◌, subst, arith, append_assoc, length-append, append-nil}
+use Rattle.std.proofs.Common.{◌≡◌, ℕ, ◌+◌, ◌<◌, ◌^◌, Bool, true, false, cond, All, List, [], ◌∷◌, ◌++◌, length, refl, sym, ap, ◌∙◌, subst, arith, append_assoc, length-append}
 use Rattle.std.proofs.lemmas.Grind.{flat_map-append}
 use Rattle.std.proofs.lemmas.List.Elements.{All-head, All-tail}
 use Rattle.std.specs.List.{flat_map}
@@ -10,17 +10,17 @@ use Rattle.path_order.specs.Stamp.{Moment, is_recent}
 use Rattle.loc_outside.specs.Trees.{Dir, Dirs}
 use Rattle.byte_feed.specs.Field.{IsText, max_path}
 use Rattle.byte_feed.specs.Front.{Follow, IsDatabase, left_by, limit, spelling}
-use Rattle.mlocate_db.specs.Items.{Item, HeadItem, EntryItem, EndItem, IsHeader, IsHead, AtStart, Between, Inside, allowed, in_directory, mlocate, room_in, spell}
+use Rattle.mlocate_db.specs.Items.{Item, HeadItem, EntryItem, EndItem, AtStart, Between, Inside, allowed, in_directory, mlocate, room_in, spell}
 use Rattle.tree_scan.specs.Admitted.{admitted, fits_in}
-use Rattle.tree_scan.specs.Blocks.{block, entry_text, header, head_text, scan_text, stamped, time_of, zero_moment}
+use Rattle.tree_scan.specs.Blocks.{block, entry_text, header, head_text, scan_text, time_of, zero_moment}
 use Rattle.tree_scan.specs.Plan.{Plan}
-use Rattle.tree_scan.specs.Reach.{Test, is_open, reached}
-use Rattle.tree_scan.proofs.Lists.{Each, each_more, each_both}
+use Rattle.tree_scan.specs.Reach.{is_open, reached}
+use Rattle.tree_scan.proofs.Lists.{Each, each_more}
 use Rattle.tree_scan.proofs.Texts.{joined_fits, name_text, normal_text}
 use Rattle.tree_scan.proofs.WalkRecursion.{joined_is}
 use Rattle.dir_reuse.specs.Naming.{entries_of}
-use Rattle.dir_reuse.specs.Scanned.{header_item, head_in, block_items, scan_items, stamp_in, IsPlan, FitsHead, IsWholeScan}
-use Rattle.dir_reuse.proofs.Reached.{IsFound, admitted_fits, led_found}
+use Rattle.dir_reuse.specs.Scanned.{header_item, head_in, block_items, scan_items, IsPlan, FitsHead, IsWholeScan}
+use Rattle.dir_reuse.proofs.Reached.{admitted_fits, led_found}
 
 pub each_of : {A : Type 0} (P : A → Type 0) (xs : List A) → All P xs → Each P xs
 each_of P [] h = tt

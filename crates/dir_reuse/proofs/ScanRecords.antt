@@ -1,36 +1,35 @@
 -- What a whole scan gives as an old database: its records and its paths.
-use Rattle.std.proofs.Common.{◌≡◌, ℕ, ◌+◌, ◌≤◌, Bool, true, false, cond, eqb, not, ◌&&◌, ◌||◌, All, Contains, IsTrue, List, [], ◌∷◌, ◌++◌, map, filter, length, take, refl, sym, ap, ◌∙◌, subst, arith, append-nil, Option, Some, None, Ok, Less, nat_cmp, is_lt}
+use Rattle.std.proofs.Common.{◌≡◌, ℕ, ◌+◌, ◌≤◌, Bool, true, false, cond, eqb, ◌&&◌, List, [], ◌∷◌, ◌++◌, map, length, take, refl, sym, ap, ◌∙◌, arith, Some, None, Ok, Less, nat_cmp, is_lt}
 use Rattle.std.specs.List.{flat_map, list_all}
 use Rattle.std.specs.Str.{bytes_eq}
 use Rattle.std.specs.Cmp.Lexicographic.{bytes_decides, slice_cmp}
-use Rattle.std.specs.FinMap.{entries, entries_sorted, get, is_sorted}
+use Rattle.std.specs.FinMap.{entries, entries_sorted, is_sorted}
 use Rattle.std.specs.FinMap.Entries.{below_all}
-use Rattle.std.proofs.lemmas.Bool.{and_from, and_parts, le-leb, not-true}
+use Rattle.std.proofs.lemmas.Bool.{and_from, and_parts, le-leb}
 use Rattle.std.proofs.lemmas.List.{take_all}
-use Rattle.std.proofs.lemmas.List.Elements.{All-cons, All-contains, All-map, All-nil}
 use Rattle.path_order.specs.declared.kind.Kind.{Kind}
 use Rattle.path_order.specs.NameList.{Listed}
 use Rattle.path_order.specs.Names.{is_name}
 use Rattle.path_order.specs.Path.{joined}
 use Rattle.path_order.specs.Stamp.{Moment}
 use Rattle.loc_outside.specs.Trees.{Dir, Dirs}
-use Rattle.byte_feed.specs.Front.{front, limit, on_ok, readable, spelling}
+use Rattle.byte_feed.specs.Front.{front, limit, on_ok, readable}
 use Rattle.byte_feed.specs.Paths.{PathAt, ToCome, GivesWhole, contents, given_by, paths_of, preamble_of}
 use Rattle.byte_feed.proofs.ReadBack.{database_front, database_given}
-use Rattle.mlocate_db.specs.Items.{Head, Item, HeaderItem, HeadItem, EntryItem, EndItem, AtStart, Between, Inside, item_at, gate_of, mlocate, spell}
+use Rattle.mlocate_db.specs.Items.{Head, Item, HeadItem, EntryItem, EndItem, AtStart, Between, Inside, item_at, gate_of, mlocate, spell}
 use Rattle.mlocate_db.proofs.ItemLaws.{mlocate_laws}
 use Rattle.mlocate_db.proofs.ItemSizes.{mlocate_shrinks}
 use Rattle.tree_scan.specs.Admitted.{admitted, fits_in}
-use Rattle.tree_scan.specs.Blocks.{block, header, scan_text, time_of}
+use Rattle.tree_scan.specs.Blocks.{block, header, scan_text}
 use Rattle.tree_scan.specs.Plan.{Plan}
-use Rattle.tree_scan.specs.Reach.{is_open, is_tried, reached, tried}
-use Rattle.tree_scan.specs.Records.{Honest, Record, bears}
-use Rattle.tree_scan.proofs.Lists.{Each, Rises, each_more, rises_filter}
+use Rattle.tree_scan.specs.Reach.{reached}
+use Rattle.tree_scan.specs.Records.{Record}
+use Rattle.tree_scan.proofs.Lists.{Each, Rises, rises_filter}
 use Rattle.tree_scan.proofs.Sorted.{ByName, rises_sorted}
 use Rattle.dir_reuse.specs.Naming.{entries_of}
 use Rattle.dir_reuse.specs.Scanned.{header_item, head_in, block_items, scan_items, scanned, paths_under, stamp_in, IsWholeScan, HaveFewNames}
 use Rattle.dir_reuse.specs.Usable.{are_usable, has_end, leading_entries, record_of, records, records_if_same_setup, records_in, usable_record}
-use Rattle.dir_reuse.proofs.Reached.{IsFound, admitted_fits, led_found}
+use Rattle.dir_reuse.proofs.Reached.{admitted_fits}
 use Rattle.dir_reuse.proofs.ScanItems.{each_of, header_allowed, scan_whole, spelled_scan}
 
 -- ---- names

@@ -1,5 +1,5 @@
 -- What is kept of an old database that is read to its end.
-use Rattle.std.specs.Prelude.{◌≡◌, ℕ, Bool, true, false, Contains, IfSome, List, ◌++◌, MatchBool, Some, None, option_to_list, ⊤}
+use Rattle.std.specs.Prelude.{◌≡◌, ℕ, Bool, Contains, IfSome, List, ◌++◌, MatchBool, Some, None, option_to_list, ⊤}
 use Rattle.std.specs.declared.option.Option.{Option}
 use Rattle.std.specs.Option.{option_map}
 use Rattle.tree_scan.specs.Records.{Record}

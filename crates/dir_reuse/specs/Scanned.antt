@@ -1,7 +1,6 @@
 -- A complete scan as an old database: its items, its records and its paths.
 use Rattle.std.specs.Prelude.{ℕ, ◌<◌, ◌≤◌, ◌^◌, ◌==◌, All, IsTrue, List, [], ◌∷◌, ◌++◌, length, map, Some, None, if◌then◌else◌}
 use Rattle.std.specs.List.{flat_map}
-use Rattle.path_order.specs.NameList.{Listed}
 use Rattle.path_order.specs.Path.{is_normal, joined}
 use Rattle.path_order.specs.Stamp.{Moment}
 use Rattle.loc_outside.specs.Trees.{Dir, Dirs}

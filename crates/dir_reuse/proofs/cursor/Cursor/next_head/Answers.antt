@@ -1,4 +1,4 @@
-use Rattle.std.proofs.Common.{◌≡◌, true, false, sym}
+use Rattle.std.proofs.Common.{◌≡◌}
 use Rattle.dir_reuse.specs.declared.seeking.Sought.TheVariants as sought
 use Rattle.dir_reuse.proofs.Keeping.{stays, stays_broken}
 use Rattle.dir_reuse.proofs.cursor.Cursor.next_head.Goals as goal

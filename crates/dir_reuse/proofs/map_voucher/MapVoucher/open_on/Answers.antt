@@ -1,7 +1,7 @@
-use Rattle.std.proofs.Common.{◌≡◌, List, ℕ, Option, Some, subst, sym, ap, ◌∙◌, arith}
+use Rattle.std.proofs.Common.{List, ℕ, Option, Some, subst, sym, arith}
 use Rattle.tree_scan.specs.Plans.{plan_of}
 use Rattle.tree_scan.specs.Records.{Record}
-use Rattle.dir_reuse.specs.Keeping.{AllKept, GivesKnown, SomeKept}
+use Rattle.dir_reuse.specs.Keeping.{GivesKnown, SomeKept}
 use Rattle.dir_reuse.proofs.Keeping.{broke_then, keeps_all, keeps_begin, keeps_more, keeps_same, keeps_stay}
 use Rattle.dir_reuse.specs.Stream.{OpensKnown}
 use Rattle.dir_reuse.proofs.map_voucher.MapVoucher.open_on.Goals as goal
