@@ -1,4 +1,5 @@
 mod Pieces
+mod ReadFiles
 mod ReadPaths
 mod CutTexts
 pub mod Sets

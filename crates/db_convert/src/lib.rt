@@ -20,4 +20,4 @@ pub use laws::{example_is_written, written_is_read_back};
 pub use list::put_list;
 pub use locate02::put_locate02;
 pub use paths::Paths;
-pub use reading::read_stream;
+pub use reading::read_paths;
