@@ -1,5 +1,5 @@
 -- What a scan has written, as the bytes that are pending in an output.
-use Rattle.std.proofs.Common.{Bool, true, false, ◌≡◌, ℕ, List, [], ◌∷◌, length, take, refl, sym, ap, subst, ◌∙◌, append-nil, inl, inr, Option, Some, Ok, Err, IsErrOf, IsTrue, ◌⊎◌, arith}
+use Rattle.std.proofs.Common.{Bool, ◌≡◌, ℕ, List, [], ◌∷◌, length, take, refl, sym, ap, subst, ◌∙◌, append-nil, inl, inr, Option, Some, Ok, Err, IsErrOf, IsTrue, ◌⊎◌, arith}
 use Rattle.std.proofs.Math.Seq.{take-length}
 use Rattle.std.specs.Io.KnownBytes.{Appends}
 use Rattle.path_order.specs.Stamp.{Moment}
@@ -174,15 +174,15 @@ err_is f x e = cc
 -- ---- how far a scan came
 
 -- the same of a scan in whose output a name was begun before, and whose lines were passed on afterwards
-pub stopped_from : (f : ScanFault) (now : Moment) (dirs : Dirs) (plan : Plan) (t p t' e e' e'' : Option (List ℕ)) → t ≡ p → e'' ≡ e' → Stopped f usual [] true now dirs plan (taken t e) (taken t' e') → Stopped f usual [] true now dirs plan (taken p e) (taken t' e'')
-stopped_from f now dirs plan t p t' e e' e'' start passed s =
-    subst (λ (x : Option (List ℕ)). Stopped f usual [] true now dirs plan (taken x e) (taken t' e'')) start (subst (λ (x : Option (List ℕ)). Stopped f usual [] true now dirs plan (taken t e) (taken t' x)) (sym passed) s)
+pub stopped_from : (f : ScanFault) (records : List Record) (all : Bool) (now : Moment) (dirs : Dirs) (plan : Plan) (t p t' e e' e'' : Option (List ℕ)) → t ≡ p → e'' ≡ e' → Stopped f usual records all now dirs plan (taken t e) (taken t' e') → Stopped f usual records all now dirs plan (taken p e) (taken t' e'')
+stopped_from f records all now dirs plan t p t' e e' e'' start passed s =
+    subst (λ (x : Option (List ℕ)). Stopped f usual records all now dirs plan (taken x e) (taken t' e'')) start (subst (λ (x : Option (List ℕ)). Stopped f usual records all now dirs plan (taken t e) (taken t' x)) (sym passed) s)
 
 -- a failed write tells nothing of where the scan was
-pub stopped_write : (fault : UpdateFault) (now : Moment) (dirs : Dirs) (plan : Plan) (t t' e e' : Option (List ℕ)) → fault ≡ faults.WriteFault → ScanStopped fault now dirs plan (taken t e) (taken t' e')
-stopped_write fault now dirs plan t t' e e' is = λ f of_f.
+pub stopped_write : (fault : UpdateFault) (records : List Record) (all : Bool) (now : Moment) (dirs : Dirs) (plan : Plan) (t t' e e' : Option (List ℕ)) → fault ≡ faults.WriteFault → ScanStopped fault records all now dirs plan (taken t e) (taken t' e')
+stopped_write fault records all now dirs plan t t' e e' is = λ f of_f.
     let same : scan_faults.WriteFault ≡ f = same_fault scan_faults.WriteFault f (sym is ∙ of_f) in
-    ends.at_silent f usual [] true now dirs plan (taken t e) (taken t' e') (sym (ap ends.is_silent same))
+    ends.at_silent f usual records all now dirs plan (taken t e) (taken t' e') (sym (ap ends.is_silent same))
 
 -- where the root is missing no write has failed
 pub not_written : (fault : UpdateFault) → IsErrOf {T = Counts} {E = UpdateFault} (Err fault) faults.RootMissing ⊎ IsErrOf {T = Counts} {E = UpdateFault} (Err fault) faults.TreeFault → fault ≡ faults.WriteFault → ⊥

@@ -1,9 +1,13 @@
-//! The steps of `updatedb`: the settings are read, the tree is scanned into the output, and the database is stored.
+//! The steps of `updatedb`: the settings are read, the tree is scanned into the output with the records of the old
+//! database, and the new one is stored.
 #![tactic(auto)]
 
 mod conf_file;
 mod fault;
 mod mount_file;
+mod old_database;
+#[cfg(test)]
+mod reuse_tests;
 mod settings;
 mod settings_file;
 mod storing;

@@ -21,18 +21,23 @@ const EMPTY_ROOT: &[u8] = b"\0mlocate\0\0\x006\0\x01\0\0/\0\
 
 /// What an update is run over.
 #[derive(Drop)]
-struct World {
-    files: MemFiles,
-    tree: MemTree,
-    output: MemOutput,
-    out: MemSink,
+pub(crate) struct World {
+    pub(crate) files: MemFiles,
+    pub(crate) tree: MemTree,
+    pub(crate) output: MemOutput,
+    pub(crate) out: MemSink,
 }
 
-fn stamp(seconds: u64, nanos: u32) -> Stamp {
+pub(crate) fn stamp(seconds: u64, nanos: u32) -> Stamp {
     Stamp::new(seconds, nanos).unwrap_or(Stamp::zero())
 }
 
-fn put(tree: &mut MemTree, path: &[u8], time: Stamp, hidden: bool) -> Result<(), AllocError> {
+pub(crate) fn put(
+    tree: &mut MemTree,
+    path: &[u8],
+    time: Stamp,
+    hidden: bool,
+) -> Result<(), AllocError> {
     let times = Times {
         modified: time,
         changed: Stamp::zero(),
@@ -51,7 +56,7 @@ fn name(tree: &mut MemTree, dir: &[u8], name: &[u8]) -> Result<(), AllocError> {
 }
 
 /// No file, and a tree of an empty root, which changed at this time.
-fn changed_at(alloc: Global, time: Stamp) -> Result<World, AllocError> {
+pub(crate) fn changed_at(alloc: Global, time: Stamp) -> Result<World, AllocError> {
     let mut tree = MemTree::new(alloc);
     put(&mut tree, b"/", time, false)?;
     Ok(World {
@@ -62,12 +67,12 @@ fn changed_at(alloc: Global, time: Stamp) -> Result<World, AllocError> {
     })
 }
 
-fn empty_root(alloc: Global) -> Result<World, AllocError> {
+pub(crate) fn empty_root(alloc: Global) -> Result<World, AllocError> {
     changed_at(alloc, stamp(1_000, 0))
 }
 
 /// `/` has the directories `a` and `a.b`, `/a` has `z`.
-fn three_levels(alloc: Global, hidden: bool) -> Result<World, AllocError> {
+pub(crate) fn three_levels(alloc: Global, hidden: bool) -> Result<World, AllocError> {
     let mut world = empty_root(alloc)?;
     put(&mut world.tree, b"/a", stamp(1_000, 0), hidden)?;
     put(&mut world.tree, b"/a/z", stamp(1_000, 0), false)?;
@@ -79,7 +84,7 @@ fn three_levels(alloc: Global, hidden: bool) -> Result<World, AllocError> {
 }
 
 /// `updatedb -o /db`
-fn plain() -> UpdatedbSettings<'static> {
+pub(crate) fn plain() -> UpdatedbSettings<'static> {
     UpdatedbSettings {
         root: "/",
         output: "/db",
@@ -103,10 +108,20 @@ fn run(
     asked: &UpdatedbSettings<'_>,
     world: &mut World,
 ) -> Result<Counts, UpdateFault> {
+    run_at(alloc, asked, 2_000, world)
+}
+
+/// Updates at so many seconds.
+pub(crate) fn run_at(
+    alloc: Global,
+    asked: &UpdatedbSettings<'_>,
+    seconds: u64,
+    world: &mut World,
+) -> Result<Counts, UpdateFault> {
     update(
         alloc,
         asked,
-        stamp(2_000, 0),
+        stamp(seconds, 0),
         &mut world.files,
         &mut world.tree,
         &mut world.output,
@@ -194,14 +209,14 @@ fn echo_into(alloc: Global, world: &mut World, out: &mut LateSink) -> Result<Cou
 }
 
 /// The bytes that are stored under the output's name, or none.
-fn stored(world: &World) -> &[u8] {
+pub(crate) fn stored(world: &World) -> &[u8] {
     match world.output.stored("/db") {
         Some(bytes) => bytes,
         None => &[],
     }
 }
 
-fn counts(directories: u64, entries: u64) -> Result<Counts, UpdateFault> {
+pub(crate) fn counts(directories: u64, entries: u64) -> Result<Counts, UpdateFault> {
     Ok(Counts {
         directories,
         entries,

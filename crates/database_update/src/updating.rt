@@ -4,18 +4,24 @@ ghost use Rattle.tool_words.specs.UpdatedbSeen.{seen};
 ghost use Rattle.database_update.specs.Updates.{UpdateDoes};
 
 use crate::fault::UpdateFault;
+use crate::old_database::{OldRecords, open_old};
 use crate::settings::read_settings;
 use crate::settings_file::SettingsFile;
 use crate::storing::store;
+use dir_reuse::StreamVoucher;
 use loc_outside::{BufferedSink, Output, Reader, Tree};
 use path_order::Stamp;
 use std::alloc::Global;
 use tool_words::UpdatedbSettings;
-use tree_scan::Counts;
+use tree_scan::{Counts, NoVoucher};
+use updatedb_conf::conf_block;
 
-/// Reads the configuration and then the mounts, begins the output, scans the tree into it, from the root on, and stores
-/// the database under the name of the output. With `verbose`, the path of each entry and a newline go to `out`, which is
-/// flushed before the database is stored, and after a fault of the scan, too; else nothing is done to `out`.
+/// Reads the configuration and then the mounts, opens the old database, which is the file under the name of the output,
+/// begins the output, scans the tree into it, from the root on, and stores the new database under that name. A directory
+/// that still has the time and the device of its record in the old database is not listed: its names are taken from
+/// there. An old database that is missing or can't be read has no records, and that is no fault.
+/// With `verbose`, the path of each entry and a newline go to `out`, which is flushed before the database is stored, and
+/// after a fault of the scan, too; else nothing is done to `out`.
 /// Answers the number of blocks and of entries. After an `Err` nothing is stored, and the first step that failed or was
 /// refused is told.
 pub fn update<R: Reader, T: Tree, O: Output, P: BufferedSink>(
@@ -40,5 +46,32 @@ pub fn update<R: Reader, T: Tree, O: Output, P: BufferedSink>(
         Ok(rules) => rules,
         Err(fault) => return Err(fault),
     };
-    store(alloc, &rules, asked.output, now, tree, output, out)
+    let Ok(block) = conf_block(alloc, &rules.conf) else {
+        return Err(UpdateFault::OutOfMemory);
+    };
+    if !open_old(reader, asked.output) {
+        return store(
+            alloc,
+            &rules,
+            asked.output,
+            now,
+            tree,
+            &mut NoVoucher,
+            output,
+            out,
+        );
+    }
+    let mut old = OldRecords {
+        stream: StreamVoucher::open_on(reader, &rules, block.as_slice()),
+    };
+    store(
+        alloc,
+        &rules,
+        asked.output,
+        now,
+        tree,
+        &mut old,
+        output,
+        out,
+    )
 }

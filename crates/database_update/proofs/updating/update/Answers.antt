@@ -1,67 +1,72 @@
-use Rattle.std.proofs.Common.{ap, refl, arith, Err}
+use Rattle.std.proofs.Common.{rules, ap, refl, sym, ◌∙◌, subst, ℕ, List, ◌≡◌, ◌≤◌, Some, Err, IsSome, arith}
+use Rattle.std.specs.FinMap.{get}
+use Rattle.loc_outside.specs.Causes.{Rose}
+use Rattle.loc_outside.specs.Files.{Files}
+use Rattle.byte_feed.proofs.Draws.{draws_then}
+use Rattle.dir_reuse.specs.Faults.{at_most_itself, at_most_trans}
+use Rattle.dir_reuse.specs.Stream.{OpensKnown}
+use Rattle.tree_scan.proofs.Texts.{normal_fits}
 use Rattle.tree_scan.specs.Plans.{plan_of}
-use Rattle.database_update.proofs.UpdateLemmas.{begins_none, exceeded_none, failures_none, found_none, left_none, memory_early, no_root, outside_early, refuses_early, went}
+use Rattle.database_update.specs.declared.fault.UpdateFault.TheVariants as faults
+use Rattle.database_update.proofs.Opening.{given_least, given_most, opened, unopened}
+use Rattle.database_update.proofs.UpdateLemmas.{ended_early, went}
 use Rattle.database_update.proofs.updating.update.Goals as goal
 
 pub returns-in-Err-clause-does : goal.returns-in-Err-clause-does
 returns-in-Err-clause-does g c =
     let f = c.in-Err.fault in
     let said = c.in-Err.ensures in
-    record {
-      stored = tt;
-      after_fault = record {
-        unstored = refl;
-        left = λ files dirs plan fs ds made. left_none f _ c.args.now dirs plan _ _ _ said.settings refl;
-        begins = begins_none f _ said.settings;
-        early = λ early. (refl, refl, refl);
-        empty = λ was. no_root f said.settings was;
-      };
-      caused = record {
-        refused = said.refused;
-        memory = said.memory;
-        read_fault = λ file was. said.fault file (ap Err was);
-        in_hand = λ was. said.in_hand (ap Err was);
-        found = λ dirs ds. found_none f _ dirs said.settings;
-        exceeded = λ files dirs plan fs ds made. exceeded_none f dirs plan said.settings;
-      };
-      required = record {
-        refuses = λ files fault fs refused. refuses_early f fault _ said.settings (λ so. said.refused so files fs) refused;
-        lacking = λ files dirs plan fs ds made gone. outside_early f plan _ said.settings (λ so. said.refused so files fs) made;
-        complete = λ files dirs plan fs ds made there narrow few reads trees outputs writes.
-            memory_early f plan _ _ said.settings (λ so. said.refused so files fs) made (λ file was. said.fault file (ap Err was)) reads;
-      };
-      failures = failures_none _ f _ _ _ said.settings;
-      bounded = record {
-        unready = λ files fault fs refused. (refl, refl, refl);
-        quiet = λ quiet. refl;
-        passed_on = λ none held. held;
-        given = said.given;
-        given_most = said.given_most;
-        conf_alone = said.conf_alone;
-        asked_of = λ files dirs plan fs ds made. record { opened = omega arith; unvouched_alone = λ all. omega arith; stats = omega arith };
-        openings = omega arith;
-        reads_later = said.later;
-      };
-    }
+    ended_early _ _ _ _ _ _ _ f
+    (record {
+      settings = said.settings;
+      refused = said.refused;
+      memory = said.memory;
+      fault = λ file was. said.fault file (ap Err was);
+      in_hand = λ was. said.in_hand (ap Err was);
+      given_few = said.given;
+      given_most = said.given_most;
+      conf_alone = said.conf_alone;
+      later = said.later;
+    })
+    (refl, refl, refl)
 
-pub returns-clause-does : goal.returns-clause-does
-returns-clause-does g c =
+pub returns-in_default-clause-does : goal.returns-in_default-clause-does
+returns-in_default-clause-does g c =
     let read = c.in-Ok.ensures in
-    let did = c.store.ensures in
-    went _ _ _ _ _ (plan_of c.in-Ok.rules) _ (record {
-      accepted = read.accepted;
-      root = read.ruled.0;
-      verbose = read.ruled.1;
-      read_once = read.given_whole;
-      given = read.given;
+    ended_early _ _ _ _ _ _ _ faults.OutOfMemory
+    (record {
+      settings = refl;
+      refused = λ so. absurd cc;
+      memory = refl;
+      fault = λ file was. absurd cc;
+      in_hand = λ was. absurd cc;
+      given_few = read.given;
       given_most = read.given_most;
       conf_alone = read.conf_alone;
-      reads_later = read.later;
+      later = read.later;
+    })
+    (refl, refl, refl)
+
+pub returns-then-not-open_old-clause-does : goal.returns-then-not-open_old-clause-does
+returns-then-not-open_old-clause-does g c =
+    let read = c.in-Ok.ensures in
+    let did = c.store.ensures in
+    let tried_open = c.open_old.ensures in
+    went _ _ _ _ _ (plan_of c.in-Ok.rules) _ _ _ (record {
+      accepted = read.accepted;
+      root = read.ruled.0;
+      fits = normal_fits c.in-Ok.rules.root read.root;
+      verbose = read.ruled.1;
+      reuses = λ files fs. unopened _ _ _ _ _ _ read.later (at_most_itself _) (tried_open.missing c.if-not-open_old.true files (read.files ∙ fs));
+      read_least = λ files fs. omega (arith, tried_open.given, read.given_whole files fs);
+      given_most = λ files fs. omega (arith, tried_open.given, read.given_most files fs);
+      reads_later = omega (arith, read.later, tried_open.later);
       stored = did.stored;
       completed = did.completed;
       ended = did.ended;
       unstored = did.unstored;
       left = did.left;
+      unwritten = did.unwritten;
       begins = did.begins;
       held_back = did.held_back;
       empty = did.empty;
@@ -74,3 +79,58 @@ returns-clause-does g c =
       quiet = did.quiet;
       same_held = λ same. ap g.P.BufferedSink.held_back same;
     })
+
+pub returns-clause-does : goal.returns-clause-does
+returns-clause-does g c =
+    let read = c.in-Ok.ensures in
+    let did = c.store-2.ensures in
+    let looked = c.open_old.ensures in
+    let header = c.open_on.ensures in
+    let kept = did.voucher_kept in
+    let plan = plan_of c.in-Ok.rules in
+    let block : c.as_slice.result.now ≡ plan.block = c.as_slice.ensures ∙ c.in-Ok-conf_block.ensures.ok in
+    let drawn = draws_then _ _ _ _ _ _ _ _ _ header.drawn kept.4 in
+    let named = kept.0 in
+    let came = header.same in
+    let back : c.reader-1.given.0 ≡ c.store-2.new.voucher.stream.src.now = search rules in
+    let failed : g.R.Source.faults c.reader-1.given.0 ≡ g.R.Source.faults c.store-2.new.voucher.stream.src.now = ap g.R.Source.faults back in
+    let read_on : g.R.Source.given c.reader-1.given.0 ≡ g.R.Source.given c.store-2.new.voucher.stream.src.now = ap g.R.Source.given back in
+    let later : g.R.Source.faults c.open_on.result.src.now ≤ g.R.Source.faults c.reader-1.given.0 = subst (λ (f : ℕ). g.R.Source.faults c.open_on.result.src.now ≤ f) (sym failed) kept.2 in
+    let found_at : (files : Files) → g.R.Reader.files c.args.reader.now ≡ Some files → IsSome (g.R.Source.left c.open_old.new.reader) × (g.R.Source.left c.open_old.new.reader ≡ get files c.args.asked.now.output.now)
+    = λ files fs. looked.found c.if-not-open_old.false files (read.files ∙ fs) in
+    went _ _ _ _ _ plan _ _ _ (record {
+      accepted = read.accepted;
+      root = read.ruled.0;
+      fits = normal_fits c.in-Ok.rules.root read.root;
+      verbose = read.ruled.1;
+      reuses = λ files fs. opened _ _ _ plan c.open_on.result.cursor c.store-2.new.voucher.stream.cursor _ _ _ _ (found_at files fs).0 (found_at files fs).1 (subst (λ (b : List ℕ). OpensKnown plan.root b (g.R.Source.left c.open_old.new.reader) c.open_on.result.cursor (g.R.Source.left c.open_on.result.src.now)) block header.opened)
+          header.broke (at_most_trans _ _ _ read.later looked.later) header.later later (λ none. kept.3 (λ r. none (subst (λ (f : ℕ). Rose (g.R.Source.faults c.open_on.result.src.now) f) (sym failed) r)));
+      read_least = λ files fs. given_least _ _ _ _ _ (looked.given ∙ read.given_whole files fs) (read_on ∙ drawn.count);
+      given_most = λ files fs. given_most _ _ _ _ _ _ _ _ (found_at files fs).0 (found_at files fs).1 drawn.rest (looked.given ∙ read.given_whole files fs) (read_on ∙ drawn.count);
+      reads_later = at_most_trans _ _ _ (at_most_trans _ _ _ (at_most_trans _ _ _ read.later looked.later) header.later) later;
+      stored = did.stored;
+      completed = did.completed;
+      ended = did.ended;
+      unstored = did.unstored;
+      left = did.left;
+      unwritten = did.unwritten;
+      begins = did.begins;
+      held_back = did.held_back;
+      empty = did.empty;
+      found = did.found;
+      exceeded = did.exceeded;
+      lacking = did.lacking;
+      failures = did.failures;
+      asked_of = did.asked_of;
+      openings = did.openings;
+      quiet = did.quiet;
+      same_held = λ same. ap g.P.BufferedSink.held_back same;
+    })
+
+pub returns-clause-files : goal.returns-clause-files
+returns-clause-files g c =
+    let named = c.store-2.ensures.voucher_kept.0 in
+    let came = c.open_on.ensures.same in
+    let back : c.reader-1.given.0 ≡ c.store-2.new.voucher.stream.src.now = search rules in
+    ap g.R.Reader.files back ∙ g.met.R.Reader.keeps_files _ _ (g.met.R.Source.keeps_on _ _ _ c.open_on.ensures.kept c.store-2.ensures.voucher_kept.1)
+    ∙ c.open_old.ensures.files ∙ c.in-Ok.ensures.files

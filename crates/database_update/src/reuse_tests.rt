@@ -1,0 +1,183 @@
+//! Updates with an old database.
+use crate::UpdateFault;
+use crate::tests::{
+    World, changed_at, counts, empty_root, plain, put, run_at, stamp, stored, three_levels,
+};
+use loc_outside::MemTree;
+use path_order::Kind;
+use std::alloc::{AllocError, Global};
+
+/// The database of `/`, `/a`, `/a/z` and `/a.b`, which changed at 1,000 s.
+const FOUR: &[u8] =
+    b"\0mlocate\0\0\0\x36\0\x01\0\0/\0prune_bind_mounts\x000\0\0prunefs\0\0prunenames\0\0prunepaths\0\0\
+    \0\0\0\0\0\0\x03\xE8\0\0\0\0\0\0\0\0/\0\x01a\0\x01a.b\0\x02\
+    \0\0\0\0\0\0\x03\xE8\0\0\0\0\0\0\0\0/a\0\x01z\0\x02\
+    \0\0\0\0\0\0\x03\xE8\0\0\0\0\0\0\0\0/a/z\0\x02\
+    \0\0\0\0\0\0\x03\xE8\0\0\0\0\0\0\0\0/a.b\0\x02";
+
+/// The same, with `/a.b` before `/a/z`.
+const OUT_OF_ORDER: &[u8] =
+    b"\0mlocate\0\0\0\x36\0\x01\0\0/\0prune_bind_mounts\x000\0\0prunefs\0\0prunenames\0\0prunepaths\0\0\
+    \0\0\0\0\0\0\x03\xE8\0\0\0\0\0\0\0\0/\0\x01a\0\x01a.b\0\x02\
+    \0\0\0\0\0\0\x03\xE8\0\0\0\0\0\0\0\0/a\0\x01z\0\x02\
+    \0\0\0\0\0\0\x03\xE8\0\0\0\0\0\0\0\0/a.b\0\x02\
+    \0\0\0\0\0\0\x03\xE8\0\0\0\0\0\0\0\0/a/z\0\x02";
+
+/// The tree of that database, which is old.
+fn unchanged(alloc: Global) -> Result<World, AllocError> {
+    let mut world = three_levels(alloc, false)?;
+    world.files.put("/db", FOUR)?;
+    Ok(world)
+}
+
+#[test]
+fn whole_records_are_reused(rt: HostRuntime) -> Result<(), AllocError> {
+    for (kept, openings) in [(166, 0), (130, 2), (118, 3), (72, 4), (20, 4), (0, 4)] {
+        let mut world = unchanged(rt.alloc())?;
+        world.files.put("/db", FOUR.get(..kept).unwrap_or(b""))?;
+        assert_eq!(rt;
+            run_at(rt.alloc(), &plain(), 3_000, &mut world),
+            counts(4, 3)
+        );
+        assert_eq!(rt; stored(&world), FOUR);
+        assert_eq!(rt; (world.tree.openings(), world.tree.stats()), (openings, 4));
+    }
+    Ok(())
+}
+
+#[test]
+fn a_changed_directory_is_listed(rt: HostRuntime) -> Result<(), AllocError> {
+    let mut world = unchanged(rt.alloc())?;
+    put(&mut world.tree, b"/a", stamp(2_500, 0), false)?;
+    world.tree.put_name(b"/a", b"k", Kind::File)?;
+    world.tree.put_name(b"/a", b"z", Kind::Directory)?;
+    assert_eq!(rt;
+        run_at(rt.alloc(), &plain(), 3_000, &mut world),
+        counts(4, 4)
+    );
+    assert_eq!(rt; (stored(&world).len(), world.tree.openings()), (169, 1));
+    let block = b"\0\0\0\0\0\0\x09\xC4\0\0\0\0\0\0\0\0/a\0\0k\0\x01z\0\x02".as_slice();
+    assert_eq!(rt; stored(&world).get(99..125).unwrap_or(b""), block);
+    assert_eq!(rt; stored(&world).get(..99), FOUR.get(..99));
+    assert_eq!(rt; stored(&world).get(125..), FOUR.get(122..));
+    Ok(())
+}
+
+#[test]
+fn a_zero_time_is_not_reused(rt: HostRuntime) -> Result<(), AllocError> {
+    let mut first = changed_at(rt.alloc(), stamp(0, 0))?;
+    assert_eq!(rt;
+        run_at(rt.alloc(), &plain(), 2_000, &mut first),
+        counts(1, 0)
+    );
+    let mut second = changed_at(rt.alloc(), stamp(0, 0))?;
+    second.files.put("/db", stored(&first))?;
+    assert_eq!(rt;
+        run_at(rt.alloc(), &plain(), 3_000, &mut second),
+        counts(1, 0)
+    );
+    assert_eq!(rt; stored(&second), stored(&first));
+    assert_eq!(rt; second.tree.openings(), 1);
+    Ok(())
+}
+
+#[test]
+fn another_configuration_reuses_nothing(rt: HostRuntime) -> Result<(), AllocError> {
+    let mut world = unchanged(rt.alloc())?;
+    world
+        .files
+        .put("/etc/updatedb.conf", b"PRUNENAMES = \".git\"")?;
+    assert_eq!(rt;
+        run_at(rt.alloc(), &plain(), 3_000, &mut world),
+        counts(4, 3)
+    );
+    assert_eq!(rt; (stored(&world).len(), world.tree.openings()), (171, 4));
+    let mut world = unchanged(rt.alloc())?;
+    let mut asked = plain();
+    asked.margin = Some(10);
+    assert_eq!(rt; run_at(rt.alloc(), &asked, 3_000, &mut world), counts(4, 3));
+    assert_eq!(rt; (stored(&world).len(), world.tree.openings()), (184, 4));
+    Ok(())
+}
+
+#[test]
+fn recent_times_are_reused_and_not_written(rt: HostRuntime) -> Result<(), AllocError> {
+    let mut world = unchanged(rt.alloc())?;
+    assert_eq!(rt; run_at(rt.alloc(), &plain(), 500, &mut world), counts(4, 3));
+    assert_eq!(rt; (stored(&world).len(), world.tree.openings()), (166, 0));
+    for at in [72, 99, 122, 144usize] {
+        let time = stored(&world).get(at..at + 12).unwrap_or(b"");
+        assert_eq!(rt; time, b"\0\0\0\0\0\0\0\0\0\0\0\0".as_slice());
+    }
+    Ok(())
+}
+
+#[test]
+fn records_out_of_order_change_no_byte(rt: HostRuntime) -> Result<(), AllocError> {
+    let mut world = unchanged(rt.alloc())?;
+    world.files.put("/db", OUT_OF_ORDER)?;
+    assert_eq!(rt;
+        run_at(rt.alloc(), &plain(), 3_000, &mut world),
+        counts(4, 3)
+    );
+    assert_eq!(rt; stored(&world), FOUR);
+    Ok(())
+}
+
+#[test]
+fn another_device_is_not_reused(rt: HostRuntime) -> Result<(), AllocError> {
+    let mounts = b"20 1 8:1 / / rw - ext4 /dev/sda1 rw".as_slice();
+    let mut asked = plain();
+    asked.version = 1;
+    let mut first = empty_root(rt.alloc())?;
+    first.files.put("/proc/self/mountinfo", mounts)?;
+    assert_eq!(rt; run_at(rt.alloc(), &asked, 2_000, &mut first), counts(1, 0));
+    for (mounts, openings) in [
+        (mounts, 0),
+        (b"20 1 8:2 / / rw - ext4 /dev/sda1 rw".as_slice(), 1),
+    ] {
+        let mut second = empty_root(rt.alloc())?;
+        second.files.put("/proc/self/mountinfo", mounts)?;
+        second.files.put("/db", stored(&first))?;
+        assert_eq!(rt;
+            run_at(rt.alloc(), &asked, 3_000, &mut second),
+            counts(1, 0)
+        );
+        assert_eq!(rt; second.tree.openings(), openings);
+        assert_eq!(rt; stored(&second) == stored(&first), openings == 0);
+    }
+    Ok(())
+}
+
+#[test]
+fn a_failed_read_of_the_old_database_is_no_fault(rt: HostRuntime) -> Result<(), AllocError> {
+    for n in 3..8u64 {
+        let mut world = unchanged(rt.alloc())?;
+        world.files.fail_at(n)?;
+        assert_eq!(rt;
+            run_at(rt.alloc(), &plain(), 3_000, &mut world),
+            counts(4, 3)
+        );
+        assert_eq!(rt; stored(&world), FOUR);
+        assert_eq!(rt; world.files.faults() == 1, world.tree.openings() == 4);
+        assert_eq!(rt; n > 4, world.tree.openings() == 0);
+    }
+    Ok(())
+}
+
+#[test]
+fn without_a_root_the_header_alone_is_read(rt: HostRuntime) -> Result<(), AllocError> {
+    let mut long = vec![in rt.alloc(); 0; 8_000]?;
+    let mut old = vec![in rt.alloc(); 0; 0]?;
+    old.extend_from_slice(FOUR)?;
+    old.append(&mut long)?;
+    let mut world = unchanged(rt.alloc())?;
+    world.files.put("/db", &old)?;
+    world.tree = MemTree::new(rt.alloc());
+    assert_eq!(rt;
+        run_at(rt.alloc(), &plain(), 3_000, &mut world),
+        Err(UpdateFault::RootMissing)
+    );
+    assert!(rt; world.files.given() <= 72 + 4_096);
+    Ok(())
+}
