@@ -1,0 +1,58 @@
+//! What the words of `locate` look for.
+ghost use Rattle.std.specs.Prelude.{◌≡◌, ◌⊎◌, Some, None, MatchResult};
+ghost use Rattle.tool_words.specs.LocateSeen.{seen};
+ghost use Rattle.locate_tools.specs.LocateExact.{query_of as query_asked, sought_by};
+ghost use Rattle.locate_tools.specs.LocateMatcher.{sought_in};
+ghost use Rattle.locate_tools.specs.RegexesAsked.{refusal_of};
+
+use crate::answer::Cause;
+use crate::regex_matcher::RegexMatcher;
+use crate::regexes::read_regexes;
+use glob_match::Steps;
+use locate_engine::{GlobMatcher, Matcher, Query};
+use std::alloc::Global;
+use std::sync::ledger::Ledger;
+use tool_words::LocateSettings;
+
+/// Wants the paths that the words want, by their patterns or by their expressions.
+#[derive(Drop)]
+pub enum LocateMatcher<'q, 'a> {
+    Globs(GlobMatcher<'q>),
+    Regexes(RegexMatcher<'a>),
+}
+
+impl Matcher for LocateMatcher<'_, '_> {
+    ghost sought = { sought_in };
+
+    #[inline(always)]
+    fn wants<L: Ledger>(&mut self, path: &[u8], steps: &mut Steps<L>) -> bool {
+        match self {
+            LocateMatcher::Globs(globs) => globs.wants(path, steps),
+            LocateMatcher::Regexes(regexes) => regexes.wants(path, steps),
+        }
+    }
+}
+
+/// The matcher of the words, or the cause for the first expression that is refused.
+pub fn matcher_of<'q, 'a>(
+    alloc: Global,
+    asked: &LocateSettings<'a>,
+    query: &'q Query,
+) -> Result<LocateMatcher<'q, 'a>, Cause>
+    requires { query.now ≡ query_asked (seen asked.now) }
+    ensures { MatchResult result
+        (λ matcher. (sought_in matcher ≡ sought_by (seen asked.now)) × (refusal_of (seen asked.now) ≡ None))
+        (λ cause. (cause ≡ Cause.OutOfMemory) ⊎ (refusal_of (seen asked.now) ≡ Some cause)) }
+{
+    if !asked.seeks_expressions() {
+        return Ok(LocateMatcher::Globs(GlobMatcher::new(query)));
+    }
+    match read_regexes(alloc, asked) {
+        Ok(regexes) => Ok(LocateMatcher::Regexes(RegexMatcher::new(
+            regexes,
+            asked.all,
+            asked.base,
+        ))),
+        Err(cause) => Err(cause),
+    }
+}
