@@ -8,17 +8,17 @@ use Rattle.posix_regex.proofs.Sound.{Within, Covers, Out, sound_items, lead_at}
 use Rattle.posix_regex.proofs.Complete.{complete_items}
 
 -- an expression spans forward, and not past the end
-abbrev Forward : List ℕ → (ℕ → ℕ → Type 0) → Type 0
+abbrev pub Forward : List ℕ → (ℕ → ℕ → Type 0) → Type 0
 Forward text R = (i j : ℕ) → i ≤ length text → R i j → (i ≤ j) × (j ≤ length text)
 
-times_forward : (text : List ℕ) (R : ℕ → ℕ → Type 0) → Forward text R → (n : ℕ) → Forward text (Times R n)
+pub times_forward : (text : List ℕ) (R : ℕ → ℕ → Type 0) → Forward text R → (n : ℕ) → Forward text (Times R n)
 times_forward text R f zero i j within e = (omega (arith, e), omega (arith, e))
 times_forward text R f (suc n) i j within h =
     let a = f i h.0 within h.1 in
     let b = times_forward text R f n h.0 j a.1 h.2 in
     (omega (arith, a.0, b.0), b.1)
 
-spans_forward : (text : List ℕ) (e : Expression) → Forward text (Spans e text)
+pub spans_forward : (text : List ℕ) (e : Expression) → Forward text (Spans e text)
 spans_forward text (OneOf bytes) i j within h = (omega (arith, h.1), omega (arith, h.0, h.1))
 spans_forward text Start i j within h = (omega (arith, h.0), omega (arith, h.1))
 spans_forward text End i j within h = (omega (arith, h.0, h.1), omega (arith, h.1))

@@ -1,4 +1,5 @@
 pub mod Complete
+pub mod Finds
 pub mod Found
 pub mod Fragments
 pub mod Inserted
@@ -6,6 +7,7 @@ pub mod Literals
 pub mod Marks
 pub mod Members
 pub mod Needles
+pub mod Places
 pub mod Reading
 pub mod Relations
 pub mod Rows

@@ -1,5 +1,6 @@
 pub mod Bracket
 pub mod Expression
+pub mod Finds
 pub mod Fragment
 pub mod Interval
 pub mod Lead

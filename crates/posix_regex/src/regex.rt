@@ -1,6 +1,7 @@
 //! Regular expressions.
 ghost use Rattle.std.specs.Prelude.{◌≡◌, ◌⊎◌, ◌↔◌, ◌+◌, ◌*◌, ◌≤◌, ℕ, List, Err, length, IfOk, IsOkAnd, IsTrue, MatchResult};
 ghost use Rattle.posix_regex.specs.Expression.{Expression, Found, size};
+ghost use Rattle.posix_regex.specs.Finds.{finds};
 ghost use Rattle.posix_regex.specs.Pattern.{expression_at};
 ghost use Rattle.posix_regex.specs.Literal.{IsLiteral, Occurs, literal_of};
 ghost use Rattle.posix_regex.specs.Program.{items_of};
@@ -108,6 +109,7 @@ impl Regex {
     /// step where the literal does not occur.
     pub fn matches<L: Ledger>(&mut self, text: &[u8], steps: &mut Steps<L>) -> bool
         ensures value { (e : Expression) → self.old.items ≡ items_of e → (IsTrue result ↔ Found e text.now) }
+        ensures decided { (e : Expression) → self.old.items ≡ items_of e → result ≡ finds e text.now }
         ensures same { self.new ≡ self.old }
         ensures rising { steps.old ≤ steps.new }
         ensures bound { steps.new ≤ steps.old + (length self.old.items + 1) * (length text.now + 1) }

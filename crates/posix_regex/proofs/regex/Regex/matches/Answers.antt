@@ -1,8 +1,9 @@
-use Rattle.std.proofs.Common.{◌≡◌, refl, ap, sym, subst, ◌∙◌}
+use Rattle.std.proofs.Common.{◌≡◌, false, refl, ap, sym, subst, ◌∙◌}
 use Rattle.std.proofs.lemmas.Bool.{false≢true}
 use Rattle.posix_regex.specs.Literal.{Compiled}
 use Rattle.posix_regex.specs.Moves.{ReachesEnd}
 use Rattle.posix_regex.specs.Program.{items_of}
+use Rattle.posix_regex.proofs.Finds.{is_finds}
 use Rattle.posix_regex.proofs.Found.{end_found, found_end}
 use Rattle.posix_regex.proofs.regex.Regex.matches.Goals as goal
 
@@ -14,6 +15,9 @@ returns-then-lacks-clause-value g c = λ e is.
           (c.self.invariant.2 c.args.text.now (subst (λ items. ReachesEnd items c.args.text.now) (sym same) (found_end e c.args.text.now f)))),
     )
 
+pub returns-then-lacks-clause-decided : goal.returns-then-lacks-clause-decided
+returns-then-lacks-clause-decided g c = λ e is. is_finds e c.args.text.now false (returns-then-lacks-clause-value g c e is)
+
 pub returns-clause-value : goal.returns-clause-value
 returns-clause-value g c = λ e is.
     let same : c.self.inside.states ≡ items_of e = ap (λ (m : Compiled). m.items) c.self.view_is ∙ is in
@@ -21,3 +25,6 @@ returns-clause-value g c = λ e is.
       λ t. end_found e c.args.text.now (subst (λ items. ReachesEnd items c.args.text.now) same (v.0 t)),
       λ f. v.1 (subst (λ items. ReachesEnd items c.args.text.now) (sym same) (found_end e c.args.text.now f)),
     )
+
+pub returns-clause-decided : goal.returns-clause-decided
+returns-clause-decided g c = λ e is. is_finds e c.args.text.now c.search.result (returns-clause-value g c e is)
