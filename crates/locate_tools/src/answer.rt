@@ -20,9 +20,15 @@ pub enum Cause {
     /// There is no such tool, or the other words break a rule of its command line.
     Usage,
     /// The configuration is refused. The line is counted from 1, and 0 where the file is too long.
-    BadConf { line: u64, fault: ConfCause },
+    BadConf {
+        line: u64,
+        fault: ConfCause,
+    },
     /// The mount table is refused. The line is counted from 1, and 0 where the file is too long.
-    BadMount { line: u64, fault: MountCause },
+    BadMount {
+        line: u64,
+        fault: MountCause,
+    },
     /// The expression of this number, counted from 0, is refused at this byte.
     BadRegex {
         pattern: u64,

@@ -183,12 +183,7 @@ pub(crate) fn tell_regex<E: Sink>(
 
 /// Writes a line about a byte of a regular expression whose place is given by its digits.
 #[tactic(auto, unfolding(crate::specs::Messages::regex_line))]
-fn tell_at_byte<E: Sink>(
-    err: &mut E,
-    tool: &str,
-    text: &[u8],
-    place: &[u8],
-) -> Result<(), Failed>
+fn tell_at_byte<E: Sink>(err: &mut E, tool: &str, text: &[u8], place: &[u8]) -> Result<(), Failed>
     ensures ok { OnOk result (Appends (E.taken err.old) (E.taken err.new) (regex_line tool.now text.now place.now)) }
     ensures part { OnErr result (AppendsPart (E.taken err.old) (E.taken err.new) (regex_line tool.now text.now place.now)) }
     ensures cause { HasCause (E.faults err.old) (E.faults err.new) result }

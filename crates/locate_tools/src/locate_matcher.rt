@@ -1,9 +1,11 @@
 //! What the words of `locate` look for.
-ghost use Rattle.std.specs.Prelude.{◌≡◌, ◌⊎◌, Some, None, MatchResult};
+ghost use Rattle.std.specs.Prelude.{◌≡◌, ◌⊎◌, ◌↔◌, true, Some, None, IsTrue, MatchResult};
+ghost use Rattle.tool_words.specs.Locate.{seeks_expressions};
 ghost use Rattle.tool_words.specs.LocateSeen.{seen};
 ghost use Rattle.locate_tools.specs.LocateExact.{query_of as query_asked, sought_by};
 ghost use Rattle.locate_tools.specs.LocateMatcher.{sought_in};
-ghost use Rattle.locate_tools.specs.RegexesAsked.{refusal_of};
+ghost use Rattle.locate_tools.specs.Regexes.{Wants};
+ghost use Rattle.locate_tools.specs.RegexesAsked.{refusal_of, regexes_of};
 
 use crate::answer::Cause;
 use crate::regex_matcher::RegexMatcher;
@@ -49,10 +51,14 @@ pub fn matcher_of<'q, 'a>(
     }
     match read_regexes(alloc, asked) {
         Ok(regexes) => Ok(LocateMatcher::Regexes(RegexMatcher::new(
-            regexes,
-            asked.all,
-            asked.base,
+            regexes, asked.all, asked.base,
         ))),
         Err(cause) => Err(cause),
     }
 }
+
+/// What words want that ask for expressions is what those are found in. Nothing is done.
+pub fn wanted_is_found(_asked: &LocateSettings<'_>, _path: &[u8])
+    ensures { seeks_expressions (seen _asked.now) ≡ true → (IsTrue ((sought_by (seen _asked.now)).wanted _path.now)
+        ↔ Wants (regexes_of (seen _asked.now)) _asked.now.all _asked.now.base _path.now) }
+{}

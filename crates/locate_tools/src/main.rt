@@ -13,6 +13,8 @@ mod locate_matcher;
 mod locate_run;
 mod messages;
 mod regex_matcher;
+#[cfg(test)]
+mod regex_tests;
 mod regexes;
 mod run;
 mod statistics_text;

@@ -64,11 +64,7 @@ fn is_wanted<L: Ledger>(
 }
 
 /// Whether every expression is found in the text.
-fn all_match<L: Ledger>(
-    regexes: &mut Vec<ReadRegex<'_>>,
-    text: &[u8],
-    steps: &mut Steps<L>,
-) -> bool
+fn all_match<L: Ledger>(regexes: &mut Vec<ReadRegex<'_>>, text: &[u8], steps: &mut Steps<L>) -> bool
     ensures value { result ≡ list_all (found_in text.now) regexes.old.items }
     ensures same { regexes.new.items ≡ regexes.old.items }
     ensures later { steps.old ≤ steps.new }
