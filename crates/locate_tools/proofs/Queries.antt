@@ -1,6 +1,6 @@
 -- The query of the words.
 use Rattle.std.proofs.Common.{◌≡◌, ℕ, ◌<◌, Bool, false, List, [], ◌∷◌, map, if◌then◌else◌, refl, sym, ap, subst, ◌∙◌}
-use Rattle.std.specs.Prelude.{IfSome}
+use Rattle.std.specs.Prelude.{IfOk, IfSome, Result, Ok, Err}
 use Rattle.glob_match.specs.Pattern.{Wanted, wanted}
 use Rattle.locate_engine.specs.Sought.{Sought}
 use Rattle.locate_engine.specs.declared.query.Query.{Query}
@@ -18,9 +18,10 @@ patterns_of now fold [] = refl
 patterns_of now fold (x ∷ xs) = ap (λ (ws : List Wanted). wanted (now x) fold ∷ ws) (patterns_of now fold xs)
 
 -- the patterns that were read are those of the words
-pub globs_are : {X : Type 0} (now : X → List ℕ) (asked : LocateAsked) (globs : List Wanted) (xs : List X) → seeks_expressions asked ≡ false
-    → globs ≡ map (λ (x : X). wanted (now x) asked.fold) xs → map now xs ≡ asked.patterns → globs ≡ globs_of asked
-globs_are now asked globs xs plain is texts =
+pub globs_are : {X E : Type 0} (now : X → List ℕ) (asked : LocateAsked) (xs : List X) (r : Result (List Wanted) E) → seeks_expressions asked ≡ false
+    → map now xs ≡ asked.patterns → IfOk r (λ globs. globs ≡ map (λ (x : X). wanted (now x) asked.fold) xs) → IfOk r (λ globs. globs ≡ globs_of asked)
+globs_are now asked xs (Err e) plain texts is = tt
+globs_are now asked xs (Ok globs) plain texts is =
     is ∙ patterns_of now asked.fold xs ∙ ap (map (λ pattern. wanted pattern asked.fold)) texts
     ∙ sym (ap (λ (seeks : Bool). if seeks then [] else map (λ pattern. wanted pattern asked.fold) asked.patterns) plain)
 

@@ -12,7 +12,7 @@ try_databases-silent-requires-clause-below g c = λ plain some. below_query c.in
 pub returns-clause-run : goal.returns-clause-run
 returns-clause-run g c =
     let items = c.try_databases-silent.new.outcomes.items in
-    does_run (seen c.args.asked.now) _ _ _ _ c.in-Ok-matcher.ensures.1
+    does_run (seen c.args.asked.now) _ _ _ _ c.in-Ok-matcher_of.ensures.1
     (run_done (seen c.args.asked.now)
     (record { files = g.R.Reader.files c.args.reader.now; given = g.R.Source.given c.args.reader.now; reads_failed = g.R.Source.faults c.args.reader.now; tests = g.G.Gate.tests c.args.gate.now; asks = g.G.Gate.asks c.args.gate.now; gate_failed = g.G.Gate.faults c.args.gate.now; taken = g.P.Sink.taken c.args.out.now; held_back = g.P.BufferedSink.held_back c.args.out.now; writes_failed = g.P.Sink.faults c.args.out.now; matched = 0 })
     (record { files = g.R.Reader.files c.try_databases-silent.new.reader; given = g.R.Source.given c.try_databases-silent.new.reader; reads_failed = g.R.Source.faults c.try_databases-silent.new.reader; tests = g.G.Gate.tests c.try_databases-silent.new.gate; asks = g.G.Gate.asks c.try_databases-silent.new.gate; gate_failed = g.G.Gate.faults c.try_databases-silent.new.gate; taken = g.P.Sink.taken c.conclude-cause.new.out; held_back = g.P.BufferedSink.held_back c.conclude-cause.new.out; writes_failed = g.P.Sink.faults c.conclude-cause.new.out; matched = 0 })
@@ -20,7 +20,7 @@ returns-clause-run g c =
     (ran_by (seen c.args.asked.now) _
     (record { files = g.R.Reader.files c.try_databases-silent.new.reader; given = g.R.Source.given c.try_databases-silent.new.reader; reads_failed = g.R.Source.faults c.try_databases-silent.new.reader; tests = g.G.Gate.tests c.try_databases-silent.new.gate; asks = g.G.Gate.asks c.try_databases-silent.new.gate; gate_failed = g.G.Gate.faults c.try_databases-silent.new.gate; taken = g.P.Sink.taken c.conclude-cause.new.out; held_back = g.P.BufferedSink.held_back c.conclude-cause.new.out; writes_failed = g.P.Sink.faults c.conclude-cause.new.out; matched = 0 })
     (record { files = g.R.Reader.files c.try_databases-silent.new.reader; given = g.R.Source.given c.try_databases-silent.new.reader; reads_failed = g.R.Source.faults c.try_databases-silent.new.reader; tests = g.G.Gate.tests c.try_databases-silent.new.gate; asks = g.G.Gate.asks c.try_databases-silent.new.gate; gate_failed = g.G.Gate.faults c.try_databases-silent.new.gate; taken = g.P.Sink.taken c.try_databases-silent.new.out; held_back = g.P.BufferedSink.held_back c.try_databases-silent.new.out; writes_failed = g.P.Sink.faults c.try_databases-silent.new.out; matched = c.try_databases-silent.new.tally.matched })
-    c.new.result items c.conclude-cause.result c.in-Ok.query _ _ c.in-Ok.ensures c.in-Ok-matcher.ensures.0 c.databases_of-names.ensures.names c.new.ensures
+    c.new.result items c.conclude-cause.result c.in-Ok.query _ _ c.in-Ok.ensures c.in-Ok-matcher_of.ensures.0 c.databases_of-names.ensures.names c.new.ensures
     c.try_databases-silent.ensures.goes c.try_databases-silent.ensures.complete
     (subst (λ (l : List Outcome). Concludes (seen c.args.asked.now) l c.try_databases-silent.new.tally.matched (g.P.Sink.taken c.try_databases-silent.new.out) (g.P.Sink.taken c.conclude-cause.new.out) (g.P.BufferedSink.held_back c.try_databases-silent.new.out) (g.P.BufferedSink.held_back c.conclude-cause.new.out) (g.P.Sink.faults c.try_databases-silent.new.out) (g.P.Sink.faults c.conclude-cause.new.out) c.conclude-cause.result) c.as_slice.ensures.value c.conclude-cause.ensures.concludes)
     refl refl refl refl))
