@@ -1,5 +1,5 @@
 -- A run of `locate`, as a whole.
-use Rattle.std.specs.Prelude.{not, decimal, IsTrue, MatchOption, Result, Ok, Err, filter, ◌||◌, ◌&&◌, ◌⊎◌}
+use Rattle.std.specs.Prelude.{not, decimal, IsSome, IsTrue, MatchOption, Result, Ok, Err, filter, ◌||◌, ◌&&◌, ◌⊎◌}
 use Rattle.std.specs.List.{flat_map, list_any}
 use Rattle.std.proofs.lemmas.List.{append-nil}
 use Rattle.std.proofs.Common.{rules, ◌≡◌, ℕ, ◌+◌, ◌≤◌, min, Bool, true, false, List, [], ◌∷◌, ◌++◌, length, Option, Some, None, if◌then◌else◌, inl, inr, ⊎_elim, refl, sym, ap, subst, ◌∙◌, arith}
@@ -251,12 +251,24 @@ does_refuse asked s cause why = ⊎_elim
     (record { answer = inl refl; none = refl; same = refl }))
     why
 
+-- a run that ended before the first database
+pub does_untried : (asked : LocateAsked) (s : Standing) (os : List Outcome) (cause cause' : Cause) → os ≡ [] → cause' ≡ cause → (cause ≡ causes.OutOfMemory) ⊎ (refusal_of asked ≡ Some cause) → LocateDoes asked s s os cause'
+does_untried asked s os cause cause' none is why =
+    subst (λ (l : List Outcome). LocateDoes asked s s l cause') (sym none) (subst (λ (c : Cause). LocateDoes asked s s [] c) (sym is) (does_refuse asked s cause why))
+
+pub not_both : (r : Option Cause) → r ≡ None → IsSome r → ⊥
+not_both None none some = let off : false ≡ true = some in absurd cc
+not_both (Some refusal) none some = absurd cc
+
+not_usage_here : (number : ℕ) (r : Result Expression RegexFault) (later : Option Cause) (cause : Cause) → (later ≡ Some cause → ⊥) → refused_or number r later ≡ Some cause → cause ≡ causes.Usage → ⊥
+not_usage_here number (Ok e) later cause none is usage = none is
+not_usage_here number (Err fault) later cause none is usage =
+    let both : Some (causes.BadRegex number fault.place fault.cause) ≡ Some causes.Usage = is ∙ ap (λ (c : Cause). Some c) usage in absurd cc
+
 first_no_usage : (number : ℕ) (regexes : List RegexAsked) (cause : Cause) → first_refused number regexes ≡ Some cause → cause ≡ causes.Usage → ⊥
 first_no_usage number [] cause is usage = absurd cc
-first_no_usage number (regex ∷ regexes) cause is usage = by (reading regex) is where
-  by : (r : Result Expression RegexFault) → refused_or number r (first_refused (number + 1) regexes) ≡ Some cause → ⊥
-  by (Ok e) later = first_no_usage (number + 1) regexes cause later usage
-  by (Err fault) here = let both : Some (causes.BadRegex number fault.place fault.cause) ≡ Some causes.Usage = here ∙ ap Some usage in absurd cc
+first_no_usage number (regex ∷ regexes) cause is usage =
+    not_usage_here number (reading regex) (first_refused (number + 1) regexes) cause (λ later. first_no_usage (number + 1) regexes cause later usage) is usage
 
 pub refused_no_usage : (asked : LocateAsked) (cause : Cause) → (cause ≡ causes.OutOfMemory) ⊎ (refusal_of asked ≡ Some cause) → cause ≡ causes.Usage → ⊥
 refused_no_usage asked cause why usage = ⊎_elim

@@ -18,12 +18,12 @@ use tool_words::LocateSettings;
 
 /// Wants the paths that the words want, by their patterns or by their expressions.
 #[derive(Drop)]
-pub enum LocateMatcher<'q, 'a> {
+pub enum LocateMatcher<'q> {
     Globs(GlobMatcher<'q>),
-    Regexes(RegexMatcher<'a>),
+    Regexes(RegexMatcher),
 }
 
-impl Matcher for LocateMatcher<'_, '_> {
+impl Matcher for LocateMatcher<'_> {
     ghost sought = { sought_in };
 
     #[inline(always)]
@@ -36,11 +36,11 @@ impl Matcher for LocateMatcher<'_, '_> {
 }
 
 /// The matcher of the words, or the cause for the first expression that is refused.
-pub fn matcher_of<'q, 'a>(
+pub fn matcher_of<'q>(
     alloc: Global,
-    asked: &LocateSettings<'a>,
+    asked: &LocateSettings<'_>,
     query: &'q Query,
-) -> Result<LocateMatcher<'q, 'a>, Cause>
+) -> Result<LocateMatcher<'q>, Cause>
     requires { query.now ≡ query_asked (seen asked.now) }
     ensures { MatchResult result
         (λ matcher. (sought_in matcher ≡ sought_by (seen asked.now)) × (refusal_of (seen asked.now) ≡ None))

@@ -12,21 +12,21 @@ use std::sync::ledger::Ledger;
 
 /// Wants the paths in which some expression is found, or every one. `base` asks of what follows the last `/` of a path.
 #[derive(Drop)]
-pub struct RegexMatcher<'a> {
-    regexes: Vec<ReadRegex<'a>>,
+pub struct RegexMatcher {
+    regexes: Vec<ReadRegex>,
     all: bool,
     base: bool,
 }
 
-impl<'a> RegexMatcher<'a> {
-    pub fn new(regexes: Vec<ReadRegex<'a>>, all: bool, base: bool) -> RegexMatcher<'a>
-        ensures { result ≡ record { regexes = regexes.entry; all = all; base = base } }
+impl RegexMatcher {
+    pub fn new(regexes: Vec<ReadRegex>, all: bool, base: bool) -> RegexMatcher
+        ensures { result ≡ record { regexes = regexes; all = all; base = base } }
     {
         RegexMatcher { regexes, all, base }
     }
 }
 
-impl Matcher for RegexMatcher<'_> {
+impl Matcher for RegexMatcher {
     ghost sought = { λ m. sought_of m.regexes.items m.all m.base };
 
     fn wants<L: Ledger>(&mut self, path: &[u8], steps: &mut Steps<L>) -> bool {
@@ -47,7 +47,7 @@ fn judged_text(base: bool, path: &[u8]) -> &[u8]
 
 /// Whether every expression is found in the text, or some expression is.
 fn is_wanted<L: Ledger>(
-    regexes: &mut Vec<ReadRegex<'_>>,
+    regexes: &mut Vec<ReadRegex>,
     all: bool,
     text: &[u8],
     steps: &mut Steps<L>,
@@ -64,7 +64,7 @@ fn is_wanted<L: Ledger>(
 }
 
 /// Whether every expression is found in the text.
-fn all_match<L: Ledger>(regexes: &mut Vec<ReadRegex<'_>>, text: &[u8], steps: &mut Steps<L>) -> bool
+fn all_match<L: Ledger>(regexes: &mut Vec<ReadRegex>, text: &[u8], steps: &mut Steps<L>) -> bool
     ensures value { result ≡ list_all (found_in text.now) regexes.old.items }
     ensures same { regexes.new.items ≡ regexes.old.items }
     ensures later { steps.old ≤ steps.new }
@@ -80,7 +80,7 @@ fn all_match<L: Ledger>(regexes: &mut Vec<ReadRegex<'_>>, text: &[u8], steps: &m
 
 /// Whether some expression is found in the text.
 fn any_matches<L: Ledger>(
-    regexes: &mut Vec<ReadRegex<'_>>,
+    regexes: &mut Vec<ReadRegex>,
     text: &[u8],
     steps: &mut Steps<L>,
 ) -> bool

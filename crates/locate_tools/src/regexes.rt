@@ -16,14 +16,14 @@ use tool_words::LocateSettings;
 
 /// An expression that was read. A contract sees what it was read from.
 #[derive(Drop)]
-pub struct ReadRegex<'a> {
-    pattern: &'a str,
+pub struct ReadRegex {
+    pattern: Vec<u8>,
     extended: bool,
     fold: bool,
     regex: Regex,
 }
 
-impl<'a> Model for ReadRegex<'a> {
+impl Model for ReadRegex {
     ghost use Rattle.std.specs.Prelude.{◌≡◌, IsOkAnd};
     ghost use Rattle.posix_regex.specs.Pattern.{expression_at};
     ghost use Rattle.posix_regex.specs.Program.{items_of};
@@ -31,31 +31,38 @@ impl<'a> Model for ReadRegex<'a> {
 
     ghost Value = { RegexAsked };
 
-    ghost view = { λ r. record { pattern = r.pattern.now; extended = r.extended; fold = r.fold } };
+    ghost view = { λ r. record { pattern = r.pattern.items; extended = r.extended; fold = r.fold } };
 
-    ghost invariant = { λ r. IsOkAnd (expression_at r.extended r.fold r.pattern.now) (λ e. r.regex.items ≡ items_of e) };
+    ghost invariant = { λ r. IsOkAnd (expression_at r.extended r.fold r.pattern.items) (λ e. r.regex.items ≡ items_of e) };
 }
 
-impl<'a> ReadRegex<'a> {
+impl ReadRegex {
     /// Reads a pattern in extended or in basic syntax. Where `fold`, ASCII letters match in either case.
     pub fn read(
         alloc: Global,
-        pattern: &'a str,
+        pattern: &str,
         extended: bool,
         fold: bool,
-    ) -> Result<ReadRegex<'a>, RegexFault>
+    ) -> Result<ReadRegex, RegexFault>
         ensures { MatchResult result
             (λ regex. (regex ≡ record { pattern = pattern.now; extended = extended; fold = fold }) × IsOk (expression_at extended fold pattern.now))
             (λ fault. (fault ≡ no_memory) ⊎ (expression_at extended fold pattern.now ≡ Err fault)) }
     {
-        match Regex::read(alloc, pattern.as_bytes(), extended, fold) {
-            Ok(regex) => Ok(ReadRegex {
+        let regex = match Regex::read(alloc, pattern.as_bytes(), extended, fold) {
+            Ok(regex) => regex,
+            Err(fault) => return Err(fault),
+        };
+        match pattern.as_bytes().to_vec(alloc) {
+            Ok(pattern) => Ok(ReadRegex {
                 pattern,
                 extended,
                 fold,
                 regex,
             }),
-            Err(fault) => Err(fault),
+            Err(_) => Err(RegexFault {
+                place: 0,
+                cause: RegexCause::OutOfMemory,
+            }),
         }
     }
 
@@ -86,19 +93,19 @@ fn cause_of(number: u64, fault: RegexFault) -> Cause
 }
 
 /// The expressions of these patterns, or the cause for the first that is refused.
-fn read_all<'a>(
+fn read_all(
     alloc: Global,
-    patterns: &[&'a str],
+    patterns: &[&str],
     extended: bool,
     fold: bool,
-) -> Result<Vec<ReadRegex<'a>>, Cause>
+) -> Result<Vec<ReadRegex>, Cause>
     ensures { let asked = regexes_by extended fold (map (λ t. t.now) patterns.now) in MatchResult result
         (λ regexes. (regexes.items ≡ asked) × (first_refused 0 asked ≡ None))
         (λ cause. (cause ≡ Cause.OutOfMemory) ⊎ (first_refused 0 asked ≡ Some cause)) }
 {
     let mut regexes = Vec::new(alloc);
     for pattern in patterns {
-        let regex = match ReadRegex::read(alloc, *pattern, extended, fold) {
+        let regex = match ReadRegex::read(alloc, pattern, extended, fold) {
             Ok(regex) => regex,
             Err(fault) => return Err(cause_of(regexes.len() as u64, fault)),
         };
@@ -110,10 +117,10 @@ fn read_all<'a>(
 }
 
 /// The expressions that the words ask for, or the cause for the first that is refused.
-pub fn read_regexes<'a>(
+pub fn read_regexes(
     alloc: Global,
-    asked: &LocateSettings<'a>,
-) -> Result<Vec<ReadRegex<'a>>, Cause>
+    asked: &LocateSettings<'_>,
+) -> Result<Vec<ReadRegex>, Cause>
     requires { seeks_expressions (seen asked.now) ≡ true }
     ensures { MatchResult result
         (λ regexes. (regexes.items ≡ regexes_of (seen asked.now)) × (refusal_of (seen asked.now) ≡ None))
