@@ -145,10 +145,10 @@ blocks_good paths h =
 
 -- ---- the database
 
-small_block : length (block default_settings) < 2 ^ 32
+pub small_block : length (block default_settings) < 2 ^ 32
 small_block = omega (arith, length_block default_settings (omega arith), room-empty empty refl)
 
-header_good : allowed AtStart header_item
+pub header_good : allowed AtStart header_item
 header_good = record {
   fixed = record { size = small_block; version = omega arith; padding = omega arith };
   root = record { some = omega arith; fits = omega arith; plain = All-cons (λ b. 0 < b) 47 [] (omega arith) (All-nil (λ b. 0 < b)) };

@@ -15,7 +15,7 @@ use Rattle.path_order.proofs.OrderLemmas.{path_total, path_same}
 use Rattle.db_convert.specs.Blocks.{sorted_unique, byte_cmp, parents, names_in, Entry, entry_of, entry_path, entry_cmp, by_directory}
 use Rattle.db_convert.proofs.DatabaseItems.{block_paths}
 
-abbrev marked : {K : Type 0} → List K → List (K × Unit {0})
+abbrev pub marked : {K : Type 0} → List K → List (K × Unit {0})
 marked ks = map (λ k. (k, tt {0})) ks
 
 first : (a b : Bool) → (a && b) ≡ true → a ≡ true
@@ -26,7 +26,7 @@ second : (a b : Bool) → (a && b) ≡ true → b ≡ true
 second true b e = e
 second false b e = absurd cc
 
-both : (a b : Bool) → a ≡ true → b ≡ true → (a && b) ≡ true
+pub both : (a b : Bool) → a ≡ true → b ≡ true → (a && b) ≡ true
 both a b p q = rw (p, q) refl
 
 is_true : (b : Bool) → T b → b ≡ true
@@ -39,13 +39,13 @@ from_true b e = subst T (sym e) tt
 -- ---- one order
 
 module _ {K : Type 0} (R : K → K → Ordering) where
-  abbrev Below : K → List K → Type 0
+  abbrev pub Below : K → List K → Type 0
   Below x ks = below_all R x (marked ks) ≡ true
 
-  abbrev Sorted : List K → Type 0
+  abbrev pub Sorted : List K → Type 0
   Sorted ks = is_sorted R (marked ks) ≡ true
 
-  abbrev among : K → List K → Bool
+  abbrev pub among : K → List K → Bool
   among q ks = list_any (eq_by_cmp R q) ks
 
   marked_keys : (es : List (K × Unit {0})) → marked (map (λ e. e.0) es) ≡ es
@@ -56,13 +56,13 @@ module _ {K : Type 0} (R : K → K → Ordering) where
   keys_marked [] = refl
   keys_marked (k ∷ ks) = ap (λ (r : List K). k ∷ r) (keys_marked ks)
 
-  sorted_unique_is_sorted : (ks : List K) → Sorted (sorted_unique R ks)
+  pub sorted_unique_is_sorted : (ks : List K) → Sorted (sorted_unique R ks)
   sorted_unique_is_sorted ks = ap (is_sorted R) (marked_keys (entries (from_entries {R = R} (marked ks)))) ∙ is_true _ (entries_sorted (from_entries {R = R} (marked ks)))
 
   found_by : (q : K) (ks : List K) → is_some (find R q (marked ks)) ≡ among q ks
   found_by q ks = is_some-find R q (marked ks) ∙ ap (list_any (eq_by_cmp R q)) (keys_marked ks)
 
-  sorted_unique_among : IsTotalOrder R → (q : K) (ks : List K) → among q (sorted_unique R ks) ≡ among q ks
+  pub sorted_unique_among : IsTotalOrder R → (q : K) (ks : List K) → among q (sorted_unique R ks) ≡ among q ks
   sorted_unique_among total q ks = sym (contains_key-keys (from_entries {R = R} (marked ks)) q) ∙ ap is_some (get-from_entries total (marked ks) q) ∙ found_by q ks
 
   unit_some : (a b : Option (Unit {0})) → is_some a ≡ is_some b → a ≡ b
@@ -72,7 +72,7 @@ module _ {K : Type 0} (R : K → K → Ordering) where
   unit_some (Some x) None e = absurd cc
 
   -- a sorted list with the same values is that order of them
-  sorted_is : IsTotalOrder R → IsAntisymmetric R → (ls ks : List K) → Sorted ls → ((q : K) → among q ls ≡ among q ks) → sorted_unique R ks ≡ ls
+  pub sorted_is : IsTotalOrder R → IsAntisymmetric R → (ls ks : List K) → Sorted ls → ((q : K) → among q ls ≡ among q ks) → sorted_unique R ks ≡ ls
   sorted_is total apart ls ks up same =
       let sorted : T (is_sorted R (marked ls)) = from_true _ up in
       let maps : from_entries {R = R} (marked ks) ≡ from_sorted {R = R} (marked ls) = same_map total apart _ _ (λ q.
@@ -85,7 +85,7 @@ module _ {K : Type 0} (R : K → K → Ordering) where
 
 -- ---- entries
 
-entry_total : IsTotalOrder entry_cmp
+pub entry_total : IsTotalOrder entry_cmp
 entry_total = then_total (on_total (λ (e : Entry). e.0) path_total) (on_total (λ (e : Entry). e.1) nat_list_cmp_total)
 
 bytes_apart : IsAntisymmetric byte_cmp
@@ -96,15 +96,15 @@ tied_parts Less b e = absurd cc
 tied_parts Equal b e = (refl, e)
 tied_parts Greater b e = absurd cc
 
-entry_apart : IsAntisymmetric entry_cmp
+pub entry_apart : IsAntisymmetric entry_cmp
 entry_apart a b e =
     let p = tied_parts (path_cmp a.0 b.0) (byte_cmp a.1 b.1) e in
     λ i. (path_same a.0 b.0 p.0 i, bytes_apart a.1 b.1 p.1 i)
 
-abbrev in_dir : List ℕ → List (List ℕ) → List Entry
+abbrev pub in_dir : List ℕ → List (List ℕ) → List Entry
 in_dir dir names = map (λ name. (dir, name)) names
 
-abbrev listed : List (List ℕ) → List (List ℕ) → List Entry
+abbrev pub listed : List (List ℕ) → List (List ℕ) → List Entry
 listed paths dirs = flat_map (λ dir. in_dir dir (names_in paths dir)) dirs
 
 -- ---- they are sorted
@@ -133,7 +133,7 @@ sorted_block dir [] rest up below h = h
 sorted_block dir (name ∷ names) rest up below h =
     both _ _ (below_append entry_cmp (dir, name) (in_dir dir names) rest (below_here dir name names (first _ _ up)) (below name)) (sorted_block dir names rest (second _ _ up) below h)
 
-sorted_listed : (paths dirs : List (List ℕ)) → Sorted path_cmp dirs → Sorted entry_cmp (listed paths dirs)
+pub sorted_listed : (paths dirs : List (List ℕ)) → Sorted path_cmp dirs → Sorted entry_cmp (listed paths dirs)
 sorted_listed paths [] up = refl
 sorted_listed paths (dir ∷ dirs) up =
     sorted_block dir (names_in paths dir) (listed paths dirs) (sorted_unique_is_sorted byte_cmp (map base_of (filter (λ path. bytes_eq (parent_of path) dir) paths))) (λ name. below_later paths dir name dirs (first _ _ up)) (sorted_listed paths dirs (second _ _ up))
@@ -148,11 +148,11 @@ any_append p (x ∷ xs) ys = ap (λ (b : Bool). p x || b) (any_append p xs ys) �
     or_again true b c = refl
     or_again false b c = refl
 
-any_map : {A B : Type 0} (p : B → Bool) (f : A → B) (xs : List A) → list_any p (map f xs) ≡ list_any (λ x. p (f x)) xs
+pub any_map : {A B : Type 0} (p : B → Bool) (f : A → B) (xs : List A) → list_any p (map f xs) ≡ list_any (λ x. p (f x)) xs
 any_map p f [] = refl
 any_map p f (x ∷ xs) = ap (λ (b : Bool). p (f x) || b) (any_map p f xs)
 
-any_same : {A : Type 0} (p q : A → Bool) → ((x : A) → p x ≡ q x) → (xs : List A) → list_any p xs ≡ list_any q xs
+pub any_same : {A : Type 0} (p q : A → Bool) → ((x : A) → p x ≡ q x) → (xs : List A) → list_any p xs ≡ list_any q xs
 any_same p q same [] = refl
 any_same p q same (x ∷ xs) = λ i. same x i || any_same p q same xs i
 
@@ -186,14 +186,14 @@ or_and true false false = refl
 or_and false true c = refl
 or_and false false c = refl
 
-among_listed : (paths : List (List ℕ)) (d n : List ℕ) (dirs : List (List ℕ)) → among entry_cmp (d, n) (listed paths dirs) ≡ (among path_cmp d dirs && among byte_cmp n (names_in paths d))
+pub among_listed : (paths : List (List ℕ)) (d n : List ℕ) (dirs : List (List ℕ)) → among entry_cmp (d, n) (listed paths dirs) ≡ (among path_cmp d dirs && among byte_cmp n (names_in paths d))
 among_listed paths d n [] = refl
 among_listed paths d n (dir ∷ dirs) =
     any_append (eq_by_cmp entry_cmp (d, n)) (in_dir dir (names_in paths dir)) (listed paths dirs)
     ∙ (λ i. (among_block d n dir (names_in paths dir) ∙ here_by (λ x. among byte_cmp n (names_in paths x)) d dir (is_dir d dir) refl) i || among_listed paths d n dirs i)
     ∙ or_and (is_dir d dir) (among path_cmp d dirs) (among byte_cmp n (names_in paths d))
 
-same_dir : (path d : List ℕ) → bytes_eq (parent_of path) d ≡ is_dir d (parent_of path)
+pub same_dir : (path d : List ℕ) → bytes_eq (parent_of path) d ≡ is_dir d (parent_of path)
 same_dir path d = both_ways _ _
     (λ e. (Equal-is (path_cmp d (parent_of path))).1 (ap (λ (x : List ℕ). path_cmp d x) ((bytes_eq-Decides (parent_of path) d).0 e) ∙ tied_itself path_total d))
     (λ e. (bytes_eq-Decides (parent_of path) d).1 (sym (path_same d (parent_of path) ((Equal-is (path_cmp d (parent_of path))).0 e))))
@@ -202,7 +202,7 @@ filter_any : {A : Type 0} (p : A → Bool) (b : Bool) (x : A) (xs : List A) (mor
 filter_any p true x xs more e = ap (λ (c : Bool). p x || c) e
 filter_any p false x xs more e = e
 
-any_filter : {A : Type 0} (p test : A → Bool) (xs : List A) → list_any p (filter test xs) ≡ list_any (λ x. test x && p x) xs
+pub any_filter : {A : Type 0} (p test : A → Bool) (xs : List A) → list_any p (filter test xs) ≡ list_any (λ x. test x && p x) xs
 any_filter p test [] = refl
 any_filter p test (x ∷ xs) = filter_any p (test x) x (filter test xs) (list_any (λ x. test x && p x) xs) (any_filter p test xs)
 
@@ -225,7 +225,7 @@ absorb a b xs = by (list_any (λ x. a x && b x) xs) refl
     by true e = rw (some xs e) refl
     by false e = and_false (list_any a xs)
 
-among_paths : (paths : List (List ℕ)) (d n : List ℕ) → (among path_cmp d (parents paths) && among byte_cmp n (names_in paths d)) ≡ among entry_cmp (d, n) (map entry_of paths)
+pub among_paths : (paths : List (List ℕ)) (d n : List ℕ) → (among path_cmp d (parents paths) && among byte_cmp n (names_in paths d)) ≡ among entry_cmp (d, n) (map entry_of paths)
 among_paths paths d n =
     let a : List ℕ → Bool = λ path. is_dir d (parent_of path) in
     let b : List ℕ → Bool = λ path. is_base n (base_of path) in

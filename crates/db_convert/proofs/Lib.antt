@@ -1,5 +1,10 @@
+mod Pieces
+mod ReadFiles
+mod ReadPaths
+mod CutTexts
 pub mod Sets
 pub mod DatabaseItems
 pub mod Directories
 mod ReadBack
+mod Refused
 mod Example

@@ -54,10 +54,10 @@ all_admitted to paths e k d lt =
 true_not : (b : Bool) → b ≡ true → not b ≡ true → ⊥
 true_not b is off = absurd cc
 
-line_listed : (path : List ℕ) → IsPath path → is_admitted formats.List path ≡ true → IsListed 10 path
+pub line_listed : (path : List ℕ) → IsPath path → is_admitted formats.List path ≡ true → IsListed 10 path
 line_listed path h e = record { is_path = h; bare = λ k d lt z. true_not (list_any (is_mark 10) path) (list_any_at (is_mark 10) path k d lt (eq-eqb _ _ z)) e }
 
-zero_listed : (path : List ℕ) → IsPath path → IsListed 0 path
+pub zero_listed : (path : List ℕ) → IsPath path → IsListed 0 path
 zero_listed path h = record { is_path = h; bare = λ k d lt z. absurd (omega (arith, h.plain k d lt, z)) }
 
 -- ---- each format
@@ -77,7 +77,7 @@ bigram_back paths all below =
     let is = chosen_table (times (counted paths)) in
     pieces.spelled_is_given (encode_bigram paths) paths below all (written.encoded_can (table_for paths) paths is) (written.encoded_spells (table_for paths) paths is all)
 
-not_root : (path : List ℕ) → is_admitted formats.Mlocate path ≡ true → (is_normal path ≡ true) × (is_root path ≡ false)
+pub not_root : (path : List ℕ) → is_admitted formats.Mlocate path ≡ true → (is_normal path ≡ true) × (is_root path ≡ false)
 not_root path e =
     let p = and_parts (is_normal path) (not (is_root path)) e in
     (p.0, turned (is_root path) p.1)

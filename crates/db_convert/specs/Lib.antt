@@ -2,3 +2,5 @@ pub mod Admission
 pub mod Blocks
 pub mod Conversion
 pub mod Example
+pub mod Reading
+pub mod Texts

@@ -1,9 +1,23 @@
-//! What a conversion between the formats is: which paths a format can hold, what is written for a list of paths, and what
-//! is read back.
+//! Conversions between the formats: which paths a format can hold, what is written for a list of paths, and what is read
+//! back; the reading of a file into a list of paths, and the writing of a list.
 #![tactic(auto)]
 
+mod admission;
+mod bigram;
+mod fault;
 mod format;
 mod laws;
+mod list;
+mod locate02;
+mod paths;
+mod reading;
 
+pub use admission::{first_refused, is_admitted};
+pub use bigram::{put_bigram, table_for};
+pub use fault::ListFault;
 pub use format::{AdmitCause, Format};
 pub use laws::{example_is_written, written_is_read_back};
+pub use list::put_list;
+pub use locate02::put_locate02;
+pub use paths::Paths;
+pub use reading::read_paths;

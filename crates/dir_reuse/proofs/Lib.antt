@@ -4,3 +4,13 @@ pub mod Answering
 pub mod Cursors
 pub mod Near
 pub mod Stream
+pub mod Reached
+pub mod ScanItems
+pub mod ScanParts
+pub mod ScanOrder
+pub mod ScanHonest
+pub mod ScanRecords
+pub mod ScanAgain
+pub mod Keeping
+pub mod Vouching
+pub mod Further

@@ -2,6 +2,8 @@ pub mod Usable
 pub mod Coming
 pub mod Seeking
 pub mod Naming
+pub mod Scanned
 pub mod Answering
 pub mod Stream
+pub mod Keeping
 pub mod Faults

@@ -1,5 +1,5 @@
 -- What a search for a directory comes to.
-use Rattle.std.specs.Prelude.{◌≡◌, ◌≤◌, ℕ, false, true, List, length}
+use Rattle.std.specs.Prelude.{◌≡◌, ◌≤◌, ◌<◌, ◌^◌, ℕ, Bool, false, true, List, length}
 use Rattle.std.specs.declared.option.Option.{Option}
 use Rattle.std.specs.declared.cmp.Ordering.TheVariants.{Greater}
 use Rattle.path_order.specs.Order.{path_cmp}
@@ -35,3 +35,14 @@ SeekShows dir sought.Fault r = is_live r.stage ≡ false
 abbrev pub stop_of : DbFault → Sought
 stop_of faults.ReadFault = sought.Fault
 stop_of fault = sought.End
+
+abbrev pub finds_head : Sought → Bool
+finds_head sought.Here = true
+finds_head sought.Later = true
+finds_head sought.End = false
+finds_head sought.Fault = false
+
+-- a reader has come further in the file
+pub record Further (r r' : ReaderState) : Type 0 where
+  pub grows : r.place < r'.place
+  pub bound : r'.place ≤ 2 ^ 40

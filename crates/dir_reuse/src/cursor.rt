@@ -1,5 +1,5 @@
 //! A place in an old database, which only moves on.
-ghost use Rattle.std.specs.Prelude.{◌≡◌, ◌≤◌, ◌+◌, ◌&&◌, [], true, false, not, IsTrue, Ok, Err, OnOk, length};
+ghost use Rattle.std.specs.Prelude.{◌≡◌, ◌≤◌, ◌+◌, ◌&&◌, [], true, false, not, IsTrue, Ok, Err, IfOk, OnOk, Some, None, ◌==◌, length, if◌then◌else◌};
 ghost use Rattle.loc_outside.specs.Causes.{Rose};
 ghost use Rattle.path_order.specs.NameList.{Listed};
 ghost use Rattle.byte_feed.specs.Endings.{is_read_fault as is_fault_of_the_source};
@@ -8,16 +8,19 @@ ghost use Rattle.mlocate_db.specs.Reader.{is_live};
 ghost use Rattle.tree_scan.specs.Records.{Fitting, bears, is_zero as is_zero_moment};
 ghost use Rattle.dir_reuse.specs.Coming.{head_of};
 ghost use Rattle.dir_reuse.specs.Usable.{record_of};
+ghost use Rattle.dir_reuse.specs.Keeping.{GivesKnown, StaysKnown};
+ghost use Rattle.dir_reuse.specs.Seeking.{Further, finds_head};
 ghost use Rattle.dir_reuse.specs.Stream.{OpensKnown};
 ghost use Rattle.dir_reuse.specs.Answering.{AnswersTold, ReadsNear, CameKnown, CameShows, HasHead, has_failed, is_open, is_sound};
 
+use crate::kept::Kept;
 use crate::naming::{Names, read_names};
 use crate::seeking::{Sought, seek};
 use byte_feed::DbFault;
 use loc_outside::Source;
 use mlocate_db::DbReader;
 use path_order::{NameList, Stamp, compare_paths};
-use std::alloc::AllocError;
+use std::alloc::{AllocError, Global};
 use std::cmp::Ordering;
 
 /// A place in an old database.
@@ -33,7 +36,7 @@ pub(crate) struct Cursor {
 }
 
 /// Whether this is the zero time.
-fn is_zero(stamp: Stamp) -> bool
+pub(crate) fn is_zero(stamp: Stamp) -> bool
     ensures { result ≡ is_zero_moment stamp }
 {
     stamp.seconds() == 0 && stamp.nanos() == 0
@@ -55,6 +58,7 @@ impl Cursor {
     /// Reads the header. Records can come only where its root and its configuration block are these.
     pub(crate) fn open_on<S: Source>(src: &mut S, root: &[u8], block: &[u8]) -> Cursor
         ensures opened { OpensKnown root.now block.now (S.left src.old) result (S.left src.new) }
+        ensures apart { result.at_head ≡ false }
         ensures sound { IsTrue (is_sound result) }
         ensures broke { result.unbroken ≡ false → Rose (S.faults src.old) (S.faults src.new) }
         ensures drawn { Draws (empty_at 0) result.reader.feed (S.given src.old) (S.given src.new) (S.left src.old) (S.left src.new) }
@@ -98,6 +102,7 @@ impl Cursor {
         requires apart { self.old.at_head ≡ false }
         ensures came { CameKnown dir.now result self.old (S.left src.old) self.new (S.left src.new) }
         ensures shows { CameShows dir.now result self.new }
+        ensures further { IsTrue (finds_head result) → Further self.old.reader self.new.reader }
         ensures closed { is_open self.old ≡ false → result ≡ Sought.End }
         ensures sound { IsTrue (is_sound self.new) }
         ensures unbroken { self.new.unbroken ≡ (not (has_failed result) && self.old.unbroken) }
@@ -124,6 +129,74 @@ impl Cursor {
                 self.unbroken = false;
                 Sought::Fault
             }
+        }
+    }
+
+    /// Reads on to the next head, if there is one.
+    pub(crate) fn next_head<S: Source>(&mut self, src: &mut S) -> bool
+        requires sound { IsTrue (is_sound self.old) }
+        requires apart { self.old.at_head ≡ false }
+        ensures stays { StaysKnown self.old (S.left src.old) self.new (S.left src.new) }
+        ensures head { result ≡ true → HasHead self.new }
+        ensures closed { result ≡ false → is_open self.new ≡ false }
+        ensures further { result ≡ true → Further self.old.reader self.new.reader }
+        ensures sound { IsTrue (is_sound self.new) }
+        ensures unbroken { IsTrue self.new.unbroken → IsTrue self.old.unbroken }
+        ensures broke { (Rose (S.faults src.old) (S.faults src.new) → ⊥) → self.new.unbroken ≡ self.old.unbroken }
+        ensures later { S.faults src.old ≤ S.faults src.new }
+        ensures kept { S.kept src.old src.new }
+    {
+        match self.go_on(src, b"") {
+            Sought::Here => true,
+            Sought::Later => true,
+            Sought::End => false,
+            Sought::Fault => false,
+        }
+    }
+
+    /// The device of the directory whose head is in hand, which a database of version 1 tells.
+    fn device(&self) -> Option<u32>
+        ensures { result ≡ (if self.now.reader.version == 1 then Some self.now.reader.device else None) }
+    {
+        if self.reader.version() == 1 {
+            Some(self.reader.device())
+        } else {
+            None
+        }
+    }
+
+    /// Reads past the directory whose head is in hand, and gives its record where it is usable. After want of memory the
+    /// cursor is not used again.
+    pub(crate) fn take_record<S: Source>(
+        &mut self,
+        alloc: Global,
+        src: &mut S,
+    ) -> Result<Option<Kept>, AllocError>
+        requires sound { IsTrue (is_sound self.old) }
+        requires head { HasHead self.old }
+        ensures gives { IfOk result (λ given. GivesKnown given self.old (S.left src.old) self.new (S.left src.new)) }
+        ensures apart { OnOk result (self.new.at_head ≡ false) }
+        ensures onward { OnOk result (self.old.reader.place ≤ self.new.reader.place) }
+        ensures sound { OnOk result (IsTrue (is_sound self.new)) }
+        ensures unbroken { IsTrue self.new.unbroken → IsTrue self.old.unbroken }
+        ensures broke { (Rose (S.faults src.old) (S.faults src.new) → ⊥) → self.new.unbroken ≡ self.old.unbroken }
+        ensures later { S.faults src.old ≤ S.faults src.new }
+        ensures kept { S.kept src.old src.new }
+    {
+        let mut path = Vec::new(alloc);
+        path.extend_from_slice(self.reader.path())?;
+        let stamp = self.reader.stamp();
+        let device = self.device();
+        let mut names = NameList::new(alloc);
+        self.at_head = false;
+        match read_names(&mut self.reader, src, &mut names) {
+            Ok(Names::Whole) => Ok(Some(Kept::new(path, stamp, device, names))),
+            Ok(Names::Unusable) => Ok(None),
+            Ok(Names::Fault) => {
+                self.unbroken = false;
+                Ok(None)
+            }
+            Err(fault) => Err(fault),
         }
     }
 

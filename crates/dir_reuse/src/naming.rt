@@ -79,6 +79,7 @@ pub(crate) fn read_names<S: Source>(
     ensures empty { IfOk result (λ names. is_whole names ≡ false → into.new ≡ []) }
     ensures stands { Stands reader.new }
     ensures near { NamesNear result reader.old (S.left src.old) reader.new }
+    ensures onward { reader.old.place ≤ reader.new.place }
     ensures dead { result ≡ Ok Names.Fault → is_live reader.new.stage ≡ false }
     ensures drawn { Draws reader.old.feed reader.new.feed (S.given src.old) (S.given src.new) (S.left src.old) (S.left src.new) }
     ensures fault { result ≡ Ok Names.Fault → Rose (S.faults src.old) (S.faults src.new) }

@@ -3,7 +3,7 @@ ghost use Rattle.std.specs.Prelude.{◌≡◌, ◌≤◌, IsTrue, length};
 ghost use Rattle.loc_outside.specs.Causes.{Rose};
 ghost use Rattle.byte_feed.specs.Feed.{Draws};
 ghost use Rattle.mlocate_db.specs.Reader.{is_live};
-ghost use Rattle.dir_reuse.specs.Seeking.{SeekKnown, SeekShows, stop_of};
+ghost use Rattle.dir_reuse.specs.Seeking.{Further, SeekKnown, SeekShows, finds_head, stop_of};
 
 use byte_feed::DbFault;
 use loc_outside::Source;
@@ -29,6 +29,7 @@ pub(crate) fn seek<S: Source>(reader: &mut DbReader, src: &mut S, dir: &[u8]) ->
     requires { IsTrue (is_live reader.old.stage) }
     ensures sought { SeekKnown dir.now result reader.old (S.left src.old) reader.new (S.left src.new) }
     ensures shows { SeekShows dir.now result reader.new }
+    ensures further { IsTrue (finds_head result) → Further reader.old reader.new }
     ensures held { length reader.new.feed.held ≤ 4096 }
     ensures drawn { Draws reader.old.feed reader.new.feed (S.given src.old) (S.given src.new) (S.left src.old) (S.left src.new) }
     ensures fault { result ≡ Sought.Fault → Rose (S.faults src.old) (S.faults src.new) }

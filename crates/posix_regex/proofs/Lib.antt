@@ -15,5 +15,6 @@ pub mod Searching
 pub mod Sets
 pub mod Singles
 pub mod Sound
+pub mod Starts
 pub mod Stretches
 pub mod Whole

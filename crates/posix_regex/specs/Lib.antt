@@ -1,6 +1,7 @@
 pub mod Bracket
 pub mod Expression
 pub mod Finds
+pub mod First
 pub mod Fragment
 pub mod Interval
 pub mod Lead

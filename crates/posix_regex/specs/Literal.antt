@@ -64,3 +64,5 @@ pub record Compiled : Type 0 where
   pub items : List Item
   -- bytes that every text has in which the expression is found
   pub literal : List ℕ
+  -- the bytes with which the expression can begin, where it takes one
+  pub first : Option (List ℕ)

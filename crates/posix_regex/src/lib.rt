@@ -3,6 +3,7 @@
 
 mod bracket;
 mod fault;
+mod first;
 mod fragment;
 mod interval;
 pub mod laws;

@@ -2,19 +2,21 @@
 ghost use Rattle.std.specs.Prelude.{◌≡◌, ◌⊎◌, ◌↔◌, ◌+◌, ◌*◌, ◌≤◌, ℕ, List, Err, length, IfOk, IsOkAnd, IsTrue, MatchResult};
 ghost use Rattle.posix_regex.specs.Expression.{Expression, Found, size};
 ghost use Rattle.posix_regex.specs.Finds.{finds};
+ghost use Rattle.posix_regex.specs.First.{AreFirst, LacksAll};
 ghost use Rattle.posix_regex.specs.Pattern.{expression_at};
 ghost use Rattle.posix_regex.specs.Literal.{IsLiteral, Occurs, literal_of};
 ghost use Rattle.posix_regex.specs.Program.{items_of};
 ghost use Rattle.posix_regex.specs.Reader.{no_memory};
 
 use crate::fault::{RegexCause, RegexFault};
+use crate::first::{first_bytes, lacks_all};
 use crate::fragment::MAX_SIZE;
 use crate::literal::literal;
 use crate::pattern::read_pattern;
 use crate::search::search;
 use crate::state_set::StateSet;
 use crate::states::States;
-use byte_class::Steps;
+use byte_class::{ByteSet, Steps};
 use memchr::memmem::Finder;
 use std::alloc::{AllocError, Global};
 use std::marker::Model;
@@ -26,20 +28,22 @@ use std::sync::ledger::Ledger;
 pub struct Regex {
     states: States,
     finder: Option<Finder<'static>>,
+    first: Option<ByteSet>,
     reached: StateSet,
     following: StateSet,
 }
 
 impl Model for Regex {
     ghost use Rattle.std.specs.Prelude.{◌≡◌, ◌+◌, length};
+    ghost use Rattle.posix_regex.specs.First.{AreFirst, bytes_of};
     ghost use Rattle.posix_regex.specs.Literal.{AreNeeded, Compiled, literal_of};
 
     ghost Value = { Compiled };
 
-    ghost view = { λ r. record { items = r.states; literal = literal_of r.finder } };
+    ghost view = { λ r. record { items = r.states; literal = literal_of r.finder; first = bytes_of r.first } };
 
     ghost invariant = { λ r. (r.reached.width ≡ length r.states + 1) × (r.following.width ≡ length r.states + 1)
-        × AreNeeded r.states (literal_of r.finder) };
+        × AreNeeded r.states (literal_of r.finder) × AreFirst r.states (bytes_of r.first) };
 }
 
 /// What finds the bytes, if there are any.
@@ -57,15 +61,18 @@ fn finder_of(alloc: Global, bytes: &[u8]) -> Result<Option<Finder<'static>>, All
 fn with_sets(alloc: Global, states: States) -> Result<Regex, AllocError>
     ensures items { IfOk result (λ regex. regex.items ≡ states) }
     ensures literal { IfOk result (λ regex. IsLiteral regex.items regex.literal) }
+    ensures first { IfOk result (λ regex. AreFirst regex.items regex.first) }
 {
     let width = states.len() + 1;
-    let reached = StateSet::new(alloc, width)?;
-    let following = StateSet::new(alloc, width)?;
+    let mut reached = StateSet::new(alloc, width)?;
+    let mut following = StateSet::new(alloc, width)?;
+    let first = first_bytes(&states, &mut reached, &mut following);
     let bytes = literal(alloc, &states)?;
     let finder = finder_of(alloc, &bytes)?;
     Ok(Regex {
         states,
         finder,
+        first,
         reached,
         following,
     })
@@ -85,6 +92,7 @@ impl Regex {
             (λ fault. (fault ≡ no_memory) ⊎ (expression_at extended fold pattern.now ≡ Err fault)) }
         ensures bound { IfOk result (λ regex. IfOk (expression_at extended fold pattern.now) (λ e. length regex.items ≤ 2 * size e)) }
         ensures literal { IfOk result (λ regex. IsLiteral regex.items regex.literal) }
+        ensures first { IfOk result (λ regex. AreFirst regex.items regex.first) }
     {
         let whole = match read_pattern(alloc, pattern, extended, fold) {
             Ok(whole) => whole,
@@ -106,7 +114,7 @@ impl Regex {
     }
 
     /// Whether the expression spans some part of the text. It takes no memory, and goes through the text once, with no
-    /// step where the literal does not occur.
+    /// step where the literal does not occur, or none of the bytes with which the expression can begin.
     pub fn matches<L: Ledger>(&mut self, text: &[u8], steps: &mut Steps<L>) -> bool
         ensures value { (e : Expression) → self.old.items ≡ items_of e → (IsTrue result ↔ Found e text.now) }
         ensures decided { (e : Expression) → self.old.items ≡ items_of e → result ≡ finds e text.now }
@@ -114,12 +122,17 @@ impl Regex {
         ensures rising { steps.old ≤ steps.new }
         ensures bound { steps.new ≤ steps.old + (length self.old.items + 1) * (length text.now + 1) }
         ensures without { (Occurs text.now self.old.literal → ⊥) → steps.new ≡ steps.old }
+        ensures idle { LacksAll text.now self.old.first → steps.new ≡ steps.old }
     {
         if lacks(&self.finder, text) {
             return false;
         }
+        if lacks_all(&self.first, text) {
+            return false;
+        }
         search(
             &self.states,
+            &self.first,
             text,
             &mut self.reached,
             &mut self.following,

@@ -1,11 +1,13 @@
 //! Searches a text, by sets of states.
 ghost use Rattle.std.specs.Prelude.{◌≡◌, ◌⊎◌, ◌<◌, ◌≤◌, ◌+◌, ℕ, [], length, slice_get, slice_index, Contains, IsTrue, IsFalse, ◌↔◌, ◌*◌};
+ghost use Rattle.posix_regex.specs.First.{AreFirst, MayBegin, bytes_of};
 ghost use Rattle.posix_regex.specs.Lead.{LeadsTo};
 ghost use Rattle.posix_regex.specs.Moves.{Leads, Reached, ReachesEnd};
 
+use crate::first::{may_begin, next_start};
 use crate::state_set::StateSet;
 use crate::states::{Lead, States};
-use byte_class::Steps;
+use byte_class::{ByteSet, Steps};
 use std::mem;
 use std::sync::ledger::Ledger;
 
@@ -35,7 +37,7 @@ fn insert(lead: Lead, now: &mut StateSet, next: &mut StateSet)
 }
 
 /// Follows the states reached at a place, and those that they lead to there, and tells whether the end is reached.
-fn spread<L: Ledger>(
+pub(crate) fn spread<L: Ledger>(
     states: &States,
     text: &[u8],
     at: usize,
@@ -73,14 +75,45 @@ fn spread<L: Ledger>(
     false
 }
 
-/// Whether the states reach their end somewhere in the text.
+/// Inserts the first state where it may begin.
+#[inline(always)]
+fn begin(first: &Option<ByteSet>, text: &[u8], at: usize, now: &mut StateSet)
+    ensures width { now.new.width ≡ now.old.width }
+    ensures kept { (s : ℕ) → Contains now.old.order s → Contains now.new.order s }
+    ensures only { (s : ℕ) → Contains now.new.order s → Contains now.old.order s ⊎ (s ≡ 0) }
+    ensures start { 0 < now.old.width → MayBegin text.now (bytes_of first.now) at → Contains now.new.order 0 }
+{
+    if !may_begin(first, text, at) {
+        return;
+    }
+    now.insert(0);
+}
+
+/// The place behind a place or, where no state is left, the next at which the first state may begin.
+#[inline(always)]
+fn place_after(now: &StateSet, first: &Option<ByteSet>, text: &[u8], at: usize) -> usize
+    requires { at < length text.now }
+    ensures further { at < result }
+    ensures within { result ≤ length text.now }
+    ensures empty { at + 1 < result → now.now.order ≡ [] }
+    ensures idle { (k : ℕ) → at + 1 ≤ k → k < result → MayBegin text.now (bytes_of first.now) k → ⊥ }
+{
+    if now.len() > 0 {
+        return at + 1;
+    }
+    next_start(first, text, at + 1)
+}
+
+/// Whether the states reach their end somewhere in the text. Only places at which the first state may begin are tried.
 pub(crate) fn search<L: Ledger>(
     states: &States,
+    first: &Option<ByteSet>,
     text: &[u8],
     now: &mut StateSet,
     next: &mut StateSet,
     steps: &mut Steps<L>,
 ) -> bool
+    requires first { AreFirst states.now (bytes_of first.now) }
     requires now_width { now.old.width ≡ length states.now + 1 }
     requires next_width { next.old.width ≡ length states.now + 1 }
     ensures now_width { now.new.width ≡ length states.now + 1 }
@@ -91,17 +124,17 @@ pub(crate) fn search<L: Ledger>(
 {
     now.clear();
     next.clear();
-    now.insert(0);
     let mut at = 0;
     while at < text.len() {
+        begin(first, text, at, now);
         if spread(states, text, at, now, next, steps) {
             return true;
         }
         mem::swap(now, next);
         next.clear();
-        now.insert(0);
-        at += 1;
+        at = place_after(now, first, text, at);
     }
+    begin(first, text, at, now);
     if spread(states, text, at, now, next, steps) {
         return true;
     }

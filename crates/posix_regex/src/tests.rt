@@ -248,6 +248,15 @@ yynn a|z /z
 yyyy a|z a|z
 yynn (a*)*b aaab
 nnnn (a*)*b aaaa
+yynn ^(ab)*$ abab
+nnnn ^(ab)*$ abb
+nnyy ^\(ab\)*$ abab
+nnnn ^\(ab\)*$ abb
+yynn (foo|bar)$ xxbar
+nnnn (foo|bar)$ xxba
+yynn (^|x)a bxa
+nnnn (^|x)a ba
+yynn a$|^b ba
 yyyy a*b b
 yynn ^(ab|cd){2}$ abcd
 nnnn ^(ab|cd){2}$ ab

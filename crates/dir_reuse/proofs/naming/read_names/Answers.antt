@@ -82,3 +82,15 @@ returns-in_err-push-in-Ok-Entry-clause-near g c =
     let kind = c.in-Ok-Entry.kind in
     let m = one_more c.args.reader.now c.names.reader c.advance.new.self c.names.into kind _ _ _ _ _ _ _ c.names.invariant.moved (rw c.in-Ok-Entry.field-0-is at e.step) in
     near_err c.args.reader.now c.advance.new.self _ _ c.from_residual.ensures.0 (rw c.in-Ok-Entry.field-0-is at e.live) (not_past_end c.args.reader.now c.advance.new.self _ _ _ m)
+
+pub returns-then-not-may_follow-clause-onward : goal.returns-then-not-may_follow-clause-onward
+returns-then-not-may_follow-clause-onward g c = omega (arith, c.names.invariant.place, (rw c.in-Ok-Entry.field-0-is at c.in-Ok-Entry.ensures.stepped).grows refl)
+
+pub returns-in_err-push-in-Ok-Entry-clause-onward : goal.returns-in_err-push-in-Ok-Entry-clause-onward
+returns-in_err-push-in-Ok-Entry-clause-onward g c = omega (arith, c.names.invariant.place, (rw c.in-Ok-Entry.field-0-is at c.in-Ok-Entry.ensures.stepped).grows refl)
+
+pub returns-in-Ok-EndDirectory-clause-onward : goal.returns-in-Ok-EndDirectory-clause-onward
+returns-in-Ok-EndDirectory-clause-onward g c = omega (arith, c.names.invariant.place, (rw c.in-Ok-EndDirectory.field-0-is at c.in-Ok-EndDirectory.ensures.stepped).grows refl)
+
+pub returns-in-Err-clause-onward : goal.returns-in-Err-clause-onward
+returns-in-Err-clause-onward g c = omega (arith, c.names.invariant.place, c.in-Err.ensures.stepped.stays refl)

@@ -4,6 +4,7 @@ use Rattle.mlocate_db.specs.declared.db_reader.Step.TheVariants as steps
 use Rattle.mlocate_db.specs.Items.{EndItem}
 use Rattle.mlocate_db.specs.Reader.{item_shown}
 use Rattle.dir_reuse.specs.Coming.{coming}
+use Rattle.dir_reuse.proofs.Further.{refused_none}
 use Rattle.dir_reuse.proofs.Passing.{goes_to_head, goes_past, goes_past_item, seeks_end}
 use Rattle.dir_reuse.proofs.seeking.seek.Goals as goal
 
@@ -64,3 +65,16 @@ items-preserved g c =
 
 pub returns-in-Ok-End-clause-sought : goal.returns-in-Ok-End-clause-sought
 returns-in-Ok-End-clause-sought g c = seeks_end c.args.dir.now c.args.reader.now c.items.reader c.advance.new.self _ _ _ c.items.invariant.goes (rw c.in-Ok-End.field-0-is at c.in-Ok-End.ensures.step)
+
+pub returns-in-Equal-clause-further : goal.returns-in-Equal-clause-further
+returns-in-Equal-clause-further g c =
+    let e = c.in-Ok-Directory.ensures in
+    λ found. record { grows = omega (arith, c.items.invariant.place, (rw c.in-Ok-Directory.field-0-is at e.stepped).grows refl); bound = e.stepped.bound }
+
+pub returns-in-Greater-clause-further : goal.returns-in-Greater-clause-further
+returns-in-Greater-clause-further g c =
+    let e = c.in-Ok-Directory.ensures in
+    λ found. record { grows = omega (arith, c.items.invariant.place, (rw c.in-Ok-Directory.field-0-is at e.stepped).grows refl); bound = e.stepped.bound }
+
+pub returns-in-Err-clause-further : goal.returns-in-Err-clause-further
+returns-in-Err-clause-further g c = refused_none _ _ _ _ c.stopped_by.ensures

@@ -1,4 +1,4 @@
-use Rattle.std.proofs.Common.{◌≡◌, ◌∙◌, sym, subst, arith}
+use Rattle.std.proofs.Common.{◌≡◌, ◌∙◌, sym, subst}
 use Rattle.posix_regex.specs.Literal.{IsLiteral, literal_of}
 use Rattle.posix_regex.proofs.Literals.{stretch_occurs}
 use Rattle.posix_regex.proofs.regex.with_sets.Goals as goal
@@ -7,9 +7,10 @@ pub invariant_of-result : goal.invariant_of-result
 invariant_of-result c =
     let same : literal_of c.in_ok-finder.finder ≡ c.in_ok-bytes.bytes.items = c.in_ok-finder.ensures ∙ c.deref.ensures.value in
     let told : IsLiteral c.args.states (literal_of c.in_ok-finder.finder) = subst (IsLiteral c.args.states) (sym same) c.in_ok-bytes.ensures in (
-      omega (arith, c.in_ok-reached.ensures, c.len-width.ensures.value),
-      omega (arith, c.in_ok-following.ensures, c.len-width.ensures.value),
+      c.first_bytes-first.ensures.now_width,
+      c.first_bytes-first.ensures.next_width,
       λ text. stretch_occurs text c.args.states told.place (literal_of c.in_ok-finder.finder) told.stretch,
+      c.first_bytes-first.ensures.first,
     )
 
 pub returns-clause-literal : goal.returns-clause-literal

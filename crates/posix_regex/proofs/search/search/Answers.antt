@@ -1,29 +1,55 @@
-use Rattle.std.proofs.Common.{◌≡◌, ◌+◌, length, refl, ap, ◌∙◌, arith}
+use Rattle.std.proofs.Common.{◌≡◌, ◌+◌, ◌*◌, ◌≤◌, length, refl, sym, ap, ◌∙◌, subst, ⊎_elim, arith, mul-le-mul_left}
 use Rattle.std.proofs.lemmas.Bool.{false≢true}
+use Rattle.posix_regex.specs.First.{MayBegin, bytes_of}
 use Rattle.posix_regex.specs.StateSet.{Members}
-use Rattle.posix_regex.proofs.Searching.{Spread, ready_next, ready_done}
+use Rattle.posix_regex.proofs.Searching.{Spread, Waiting, waiting_next, waiting_at, waiting_done}
+use Rattle.posix_regex.proofs.Starts.{end_begun}
 use Rattle.posix_regex.proofs.search.search.Goals as goal
+
+pub spread-requires-clause-sound : goal.spread-requires-clause-sound
+spread-requires-clause-sound g c = λ s h.
+    ⊎_elim (λ old. c.loop-at.invariant.waiting.sound s old) (λ e. (0, (e, c.loop-at.invariant.within))) (c.begin.ensures.only s h)
+
+pub spread-requires-2-clause-sound : goal.spread-requires-2-clause-sound
+spread-requires-2-clause-sound g c = λ s h.
+    ⊎_elim (λ old. c.loop-at.invariant.waiting.sound s old) (λ e. (0, (e, c.loop-at.invariant.within))) (c.begin-2.ensures.only s h)
 
 pub loop-at-preserved : goal.loop-at-preserved
 loop-at-preserved g c =
+    let Start = MayBegin c.args.text.now (bytes_of c.args.first.now) in
+    let items = c.args.states.now in
+    let text = c.args.text.now in
+    let at = c.loop-at.at in
+    let to = c.place_after-at.result in
     let inv = c.loop-at.invariant in
     let e = c.if-spread.ensures in
-    let p : Spread c.args.states.now c.args.text.now c.loop-at.now.order c.spread.new.now.order c.spread.new.next.order c.loop-at.at = record { kept = e.kept; next_sound = e.next_sound; closed = e.closed refl; unfinished = e.unfinished refl } in
-    let first : c.swap.new.x.width ≡ length c.args.states.now + 1 = ap (λ (m : Members). m.width) c.swap.ensures.x_after ∙ e.next_width ∙ inv.next_width in
-    let second : c.swap.new.y.width ≡ length c.args.states.now + 1 = ap (λ (m : Members). m.width) c.swap.ensures.y_after ∙ e.now_width ∙ inv.now_width in
+    let p : Spread items text c.begin.new.now.order c.spread.new.now.order c.spread.new.next.order at = record { kept = e.kept; next_sound = e.next_sound; closed = e.closed refl; unfinished = e.unfinished refl } in
+    let first : c.swap.new.x.width ≡ length items + 1 = ap (λ (m : Members). m.width) c.swap.ensures.x_after ∙ e.next_width ∙ inv.next_width in
+    let second : c.swap.new.y.width ≡ length items + 1 = ap (λ (m : Members). m.width) c.swap.ensures.y_after ∙ e.now_width ∙ c.begin.ensures.width ∙ inv.now_width in
+    let after : Waiting Start items text c.spread.new.next.order (at + 1) =
+    waiting_next Start items text c.loop-at.now.order c.begin.new.now.order c.spread.new.now.order c.spread.new.next.order at inv.waiting c.begin.ensures.kept (λ here. c.begin.ensures.start (omega (arith, inv.now_width)) here) p in
+    let more : (length items + 1) * (at + 1) ≤ (length items + 1) * to = mul-le-mul_left (length items + 1) (omega (arith, c.place_after-at.ensures.further)) in
     record {
-      within = omega (arith, c.loop-at-test.true);
-      now_width = c.insert-in-loop-at.ensures.width ∙ first;
+      within = c.place_after-at.ensures.within;
+      now_width = first;
       next_width = c.clear-in-loop-at.ensures.width ∙ second;
-      ready = ready_next c.args.states.now c.args.text.now c.loop-at.now.order c.spread.new.now.order c.spread.new.next.order c.loop-at.at inv.ready p c.spread.new.next.width c.insert-in-loop-at.new.self.order (omega (arith, c.loop-at-test.true)) (rw c.swap.ensures.x_after at c.insert-in-loop-at.ensures.order) (c.insert-in-loop-at.ensures.has (omega (arith, first)));
+      waiting = waiting_at Start items text c.swap.new.x.order at to c.place_after-at.ensures.further c.place_after-at.ensures.empty c.place_after-at.ensures.idle
+          (subst (λ (m : Members). Waiting Start items text m.order (at + 1)) (sym c.swap.ensures.x_after) after);
       empty = c.clear-in-loop-at.ensures.empty;
       rising = omega (arith, inv.rising, e.rising);
-      bound = omega (arith, inv.bound, e.bound);
+      bound = omega (arith, inv.bound, e.bound, more);
     }
 
 pub returns-clause-value : goal.returns-clause-value
 returns-clause-value g c =
+    let Start = MayBegin c.args.text.now (bytes_of c.args.first.now) in
+    let items = c.args.states.now in
+    let text = c.args.text.now in
     let inv = c.loop-at.invariant in
     let e = c.if-spread-2.ensures in
-    let p : Spread c.args.states.now c.args.text.now c.loop-at.now.order c.spread-2.new.now.order c.spread-2.new.next.order c.loop-at.at = record { kept = e.kept; next_sound = e.next_sound; closed = e.closed refl; unfinished = e.unfinished refl } in
-    (λ t. absurd (false≢true t), λ h. absurd (ready_done c.args.states.now c.args.text.now c.loop-at.now.order c.spread-2.new.now.order c.spread-2.new.next.order c.loop-at.at inv.ready p (omega (arith, c.loop-at-test.false)) h))
+    let p : Spread items text c.begin-2.new.now.order c.spread-2.new.now.order c.spread-2.new.next.order c.loop-at.at = record { kept = e.kept; next_sound = e.next_sound; closed = e.closed refl; unfinished = e.unfinished refl } in (
+      λ t. absurd (false≢true t),
+      λ h.
+          let begun = end_begun items text (bytes_of c.args.first.now) c.requires.first (λ i within. omega (arith, c.type_inv.text i)) h.0 h.1 in
+          absurd (waiting_done Start items text c.loop-at.now.order c.begin-2.new.now.order c.spread-2.new.now.order c.spread-2.new.next.order c.loop-at.at inv.waiting c.begin-2.ensures.kept (λ here. c.begin-2.ensures.start (omega (arith, inv.now_width)) here) p (omega (arith, c.loop-at-test.false)) h.0 begun),
+    )

@@ -1,10 +1,12 @@
-use Rattle.std.proofs.Common.{◌≡◌, false, refl, ap, sym, subst, ◌∙◌}
+use Rattle.std.proofs.Common.{◌≡◌, false, arith, refl, ap, sym, subst, ◌∙◌}
 use Rattle.std.proofs.lemmas.Bool.{false≢true}
+use Rattle.posix_regex.specs.First.{bytes_of}
 use Rattle.posix_regex.specs.Literal.{Compiled}
 use Rattle.posix_regex.specs.Moves.{ReachesEnd}
 use Rattle.posix_regex.specs.Program.{items_of}
 use Rattle.posix_regex.proofs.Finds.{is_finds}
 use Rattle.posix_regex.proofs.Found.{end_found, found_end}
+use Rattle.posix_regex.proofs.Starts.{none_begins}
 use Rattle.posix_regex.proofs.regex.Regex.matches.Goals as goal
 
 pub returns-then-lacks-clause-value : goal.returns-then-lacks-clause-value
@@ -17,6 +19,18 @@ returns-then-lacks-clause-value g c = λ e is.
 
 pub returns-then-lacks-clause-decided : goal.returns-then-lacks-clause-decided
 returns-then-lacks-clause-decided g c = λ e is. is_finds e c.args.text.now false (returns-then-lacks-clause-value g c e is)
+
+pub returns-then-lacks_all-clause-value : goal.returns-then-lacks_all-clause-value
+returns-then-lacks_all-clause-value g c = λ e is.
+    let text = c.args.text.now in
+    let same : c.self.inside.states ≡ items_of e = ap (λ (m : Compiled). m.items) c.self.view_is ∙ is in (
+      λ t. absurd (false≢true t),
+      λ f. absurd (none_begins c.self.inside.states text (bytes_of c.self.inside.first) c.self.invariant.3 (λ i within. omega (arith, c.type_inv.text i)) (c.if-lacks_all.ensures.0 refl)
+          (subst (λ items. ReachesEnd items text) (sym same) (found_end e text f))),
+    )
+
+pub returns-then-lacks_all-clause-decided : goal.returns-then-lacks_all-clause-decided
+returns-then-lacks_all-clause-decided g c = λ e is. is_finds e c.args.text.now false (returns-then-lacks_all-clause-value g c e is)
 
 pub returns-clause-value : goal.returns-clause-value
 returns-clause-value g c = λ e is.

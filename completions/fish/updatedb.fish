@@ -1,0 +1,15 @@
+# Completion of nisrouv's updatedb in fish.
+complete -c updatedb -f
+complete -c updatedb -s f -l add-prunefs -x -d 'Prune these file system types too'
+complete -c updatedb -s n -l add-prunenames -x -d 'Prune directories of these names too'
+complete -c updatedb -s e -l add-prunepaths -x -a '(__fish_complete_directories)' -d 'Prune these directories too'
+complete -c updatedb -s U -l database-root -x -a '(__fish_complete_directories)' -d 'The directory to scan'
+complete -c updatedb -s o -l output -r -F -d 'The database to write'
+complete -c updatedb -s l -l require-visibility -x -a 'yes no' -d 'The visibility flag'
+complete -c updatedb -l prune-bind-mounts -x -a 'yes no' -d 'Prune bind mounts'
+complete -c updatedb -l prunefs -x -d 'Prune these file system types'
+complete -c updatedb -l prunenames -x -d 'Prune directories of these names'
+complete -c updatedb -l prunepaths -x -a '(__fish_complete_directories)' -d 'Prune these directories'
+complete -c updatedb -l db-version -x -a '0 1' -d 'The version of the database'
+complete -c updatedb -l recent-margin -x -d 'The recency margin in seconds'
+complete -c updatedb -s v -l verbose -d 'Print each path that is stored'

@@ -1,0 +1,37 @@
+use Rattle.std.proofs.Common.{ℕ, List, Option, Some, None, IfSome, refl, sym, subst}
+use Rattle.byte_feed.specs.Front.{Window}
+use Rattle.byte_feed.specs.Feed.{empty_at}
+use Rattle.mlocate_db.specs.Reader as mlocate
+use Rattle.locate02_db.specs.Reader as locate02
+use Rattle.bigram_db.specs.Reader as bigram
+use Rattle.path_list.specs.Reader as list
+use Rattle.path_list.specs.declared.mark.Mark.TheVariants.{Newline, Zero}
+use Rattle.db_convert.specs.declared.format.Format.{Format}
+use Rattle.db_convert.specs.Reading.{Answers, contents_in}
+use Rattle.db_convert.proofs.ReadFiles.{stream_answers}
+use Rattle.db_convert.proofs.reading.read_in.Goals as goal
+
+pub returns-in-Mlocate-clause-answer : goal.returns-in-Mlocate-clause-answer
+returns-in-Mlocate-clause-answer g c =
+    subst (λ (f : Format). IfSome (g.S.Source.left c.args.src.now) (λ (file : List ℕ). Answers (contents_in (Some f) file) c.read_stream.result)) (sym c.in-Mlocate.is)
+    (stream_answers mlocate.paths_left (λ (r : mlocate.ReaderState). r.feed) _ (mlocate.fresh_on (empty_at 0)) c.new.ensures refl _ _ c.read_stream.ensures.answer)
+
+pub returns-in-Locate02-clause-answer : goal.returns-in-Locate02-clause-answer
+returns-in-Locate02-clause-answer g c =
+    subst (λ (f : Format). IfSome (g.S.Source.left c.args.src.now) (λ (file : List ℕ). Answers (contents_in (Some f) file) c.read_stream-in-Locate02.result)) (sym c.in-Locate02.is)
+    (stream_answers locate02.paths_left (λ (r : locate02.ReaderState). r.feed) _ (locate02.fresh_on (empty_at 0)) c.new-in-Locate02.ensures refl _ _ c.read_stream-in-Locate02.ensures.answer)
+
+pub returns-in-Bigram-clause-answer : goal.returns-in-Bigram-clause-answer
+returns-in-Bigram-clause-answer g c =
+    subst (λ (f : Format). IfSome (g.S.Source.left c.args.src.now) (λ (file : List ℕ). Answers (contents_in (Some f) file) c.read_stream-in-Bigram.result)) (sym c.in-Bigram.is)
+    (stream_answers bigram.paths_left (λ (r : bigram.ReaderState). r.feed) _ (bigram.fresh_on (empty_at 0)) c.new-in-Bigram.ensures refl _ _ c.read_stream-in-Bigram.ensures.answer)
+
+pub returns-in-List-clause-answer : goal.returns-in-List-clause-answer
+returns-in-List-clause-answer g c =
+    subst (λ (f : Format). IfSome (g.S.Source.left c.args.src.now) (λ (file : List ℕ). Answers (contents_in (Some f) file) c.read_stream-in-List.result)) (sym c.in-List.is)
+    (stream_answers list.paths_left (λ (r : list.ReaderState). r.feed) _ (list.fresh_on (empty_at 0) Newline) c.new-in-List.ensures refl _ _ c.read_stream-in-List.ensures.answer)
+
+pub returns-in-List0-clause-answer : goal.returns-in-List0-clause-answer
+returns-in-List0-clause-answer g c =
+    subst (λ (f : Format). IfSome (g.S.Source.left c.args.src.now) (λ (file : List ℕ). Answers (contents_in (Some f) file) c.read_stream-in-List0.result)) (sym c.in-List0.is)
+    (stream_answers list.paths_left (λ (r : list.ReaderState). r.feed) _ (list.fresh_on (empty_at 0) Zero) c.new-in-List0.ensures refl _ _ c.read_stream-in-List0.ensures.answer)

@@ -1,0 +1,4 @@
+mod Draws
+mod Paths
+mod DirEdits
+pub mod Stamps

@@ -1,0 +1,6 @@
+pub mod Numbers
+pub mod Naming
+pub mod FirstTree
+pub mod Rounds
+pub mod Kept
+pub mod Steps
