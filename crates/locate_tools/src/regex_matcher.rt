@@ -79,11 +79,7 @@ fn all_match<L: Ledger>(regexes: &mut Vec<ReadRegex>, text: &[u8], steps: &mut S
 }
 
 /// Whether some expression is found in the text.
-fn any_matches<L: Ledger>(
-    regexes: &mut Vec<ReadRegex>,
-    text: &[u8],
-    steps: &mut Steps<L>,
-) -> bool
+fn any_matches<L: Ledger>(regexes: &mut Vec<ReadRegex>, text: &[u8], steps: &mut Steps<L>) -> bool
     ensures value { result ≡ list_any (found_in text.now) regexes.old.items }
     ensures same { regexes.new.items ≡ regexes.old.items }
     ensures later { steps.old ≤ steps.new }

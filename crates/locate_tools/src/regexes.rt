@@ -117,10 +117,7 @@ fn read_all(
 }
 
 /// The expressions that the words ask for, or the cause for the first that is refused.
-pub fn read_regexes(
-    alloc: Global,
-    asked: &LocateSettings<'_>,
-) -> Result<Vec<ReadRegex>, Cause>
+pub fn read_regexes(alloc: Global, asked: &LocateSettings<'_>) -> Result<Vec<ReadRegex>, Cause>
     requires { seeks_expressions (seen asked.now) ≡ true }
     ensures { MatchResult result
         (λ regexes. (regexes.items ≡ regexes_of (seen asked.now)) × (refusal_of (seen asked.now) ≡ None))
