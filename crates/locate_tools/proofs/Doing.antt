@@ -16,12 +16,12 @@ use Rattle.locate_tools.specs.declared.answer.Cause.TheVariants as causes
 use Rattle.locate_tools.specs.declared.answer.Ending.{Ending}
 use Rattle.locate_tools.specs.Calls.{CallMade, request_of, tool_called}
 use Rattle.locate_tools.specs.Does.{Does, Leaves, LeavesLocate, RunsLocate, RunsUpdatedb, Works, standing_in}
-use Rattle.locate_tools.specs.LocateRun.{LocateRun}
+use Rattle.locate_tools.specs.LocateRun.{LocateDoes}
 use Rattle.locate_tools.specs.Standing.{Standing}
 use Rattle.locate_tools.specs.Statuses.{status_of}
 use Rattle.locate_tools.specs.Told.{told}
 use Rattle.locate_tools.specs.UpdatedbRun.{UpdatedbRun, around_in}
-use Rattle.locate_tools.proofs.Runs.{run_nothing}
+use Rattle.locate_tools.proofs.Runs.{does_nothing}
 use Rattle.locate_tools.proofs.Updating.{run_none}
 
 not_usage : (cause : Cause) → cause ≡ causes.OutOfMemory → cause ≡ causes.Usage → ⊥
@@ -43,9 +43,9 @@ works_memory (Some (Updatedb asked)) now before ending after is outcomes standin
   outcomes = outcomes;
 }
 works_memory (Some (Locate asked)) now before ending after is outcomes standing around = record {
-  run = subst (λ (s : Standing). LocateRun asked (standing_in before) s ending.outcomes ending.cause) (sym standing)
-      (subst (λ (os : List Outcome). LocateRun asked (standing_in before) (standing_in before) os ending.cause) (sym outcomes)
-      (subst (λ (cause : Cause). LocateRun asked (standing_in before) (standing_in before) [] cause) (sym is) (run_nothing asked (standing_in before))));
+  run = subst (λ (s : Standing). LocateDoes asked (standing_in before) s ending.outcomes ending.cause) (sym standing)
+      (subst (λ (os : List Outcome). LocateDoes asked (standing_in before) (standing_in before) os ending.cause) (sym outcomes)
+      (subst (λ (cause : Cause). LocateDoes asked (standing_in before) (standing_in before) [] cause) (sym is) (does_nothing asked (standing_in before))));
   accepted = not_usage ending.cause is;
 }
 works_memory (Some (Convert asked)) now before ending after is outcomes standing around = record { cause = inr is; outcomes = outcomes }
@@ -83,7 +83,7 @@ does_by call before ending after text works status same tells part passed files 
 pub leaves_all : (r : Option Asked) (cause : Cause) (reader tree gate output out : Type 0) → reader → tree → gate → output → out → Leaves r cause reader tree gate output out
 leaves_all None cause reader tree gate output out r t g o p = (r, t, g, o, p)
 leaves_all (Some (Updatedb asked)) cause reader tree gate output out r t g o p = g
-leaves_all (Some (Locate asked)) cause reader tree gate output out r t g o p = record { tree_same = t; output_same = o; unopened = λ _. (r, g, p); unasked = λ _. (r, g) }
+leaves_all (Some (Locate asked)) cause reader tree gate output out r t g o p = record { tree_same = t; output_same = o; unopened = λ _. (r, g, p); refused = λ _. (r, g, p); unasked = λ _. (r, g) }
 leaves_all (Some (Convert asked)) cause reader tree gate output out r t g o p = (r, t, g, o, p)
 leaves_all (Some (Exercise asked)) cause reader tree gate output out r t g o p = (r, t, g, o, p)
 

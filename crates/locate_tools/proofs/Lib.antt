@@ -7,5 +7,6 @@ pub mod Updating
 pub mod Counting
 pub mod ToldOf
 pub mod Queries
+pub mod Expressions
 pub mod Searching
 pub mod Doing

@@ -1,13 +1,15 @@
 -- A run of `locate`, as a whole.
-use Rattle.std.specs.Prelude.{not, decimal, IsTrue, filter, ◌||◌, ◌&&◌}
+use Rattle.std.specs.Prelude.{not, decimal, IsSome, IsTrue, MatchOption, Result, Ok, Err, filter, ◌||◌, ◌&&◌, ◌⊎◌}
 use Rattle.std.specs.List.{flat_map, list_any}
 use Rattle.std.proofs.lemmas.List.{append-nil}
-use Rattle.std.proofs.Common.{rules, ◌≡◌, ℕ, ◌+◌, ◌≤◌, min, Bool, true, false, List, [], ◌∷◌, ◌++◌, length, Option, Some, None, if◌then◌else◌, refl, sym, ap, subst, ◌∙◌, arith}
+use Rattle.std.proofs.Common.{rules, ◌≡◌, ℕ, ◌+◌, ◌≤◌, min, Bool, true, false, List, [], ◌∷◌, ◌++◌, length, Option, Some, None, if◌then◌else◌, inl, inr, ⊎_elim, refl, sym, ap, subst, ◌∙◌, arith}
 use Rattle.std.proofs.KnownBytes.{Appends-trans}
 use Rattle.std.specs.Io.KnownBytes.{Appends}
 use Rattle.loc_outside.specs.Causes.{Rose, last_count}
 use Rattle.loc_outside.specs.Files.{Files}
-use Rattle.tool_words.specs.Locate.{LocateAsked}
+use Rattle.posix_regex.specs.Expression.{Expression}
+use Rattle.posix_regex.specs.declared.fault.RegexFault.{RegexFault}
+use Rattle.tool_words.specs.Locate.{LocateAsked, seeks_expressions}
 use Rattle.locate_engine.specs.Sought.{Sought}
 use Rattle.locate_engine.specs.declared.query.Query.{Query}
 use Rattle.locate_engine.specs.declared.outcome.Outcome.{Outcome}
@@ -18,7 +20,9 @@ use Rattle.locate_tools.specs.Standing.{Standing, Goes, IsComplete}
 use Rattle.locate_tools.specs.Tried.{Tried, TriedCount, TriedSearch, Moves, NoneFailed}
 use Rattle.locate_tools.specs.Work.{Work, Search, Statistics}
 use Rattle.locate_tools.specs.LocateExact.{World, Locates, LocatesIn, may_ask_gate, lines_of, number_of, asks_nothing, databases_of, query_of, found, endings, cause_of, sought_by, work_by, work_of}
-use Rattle.locate_tools.specs.LocateRun.{LocateRan, LocateRun, is_write_fault, is_read_fault, is_gate_fault}
+use Rattle.locate_tools.specs.LocateRun.{LocateDoes, LocateRan, LocateRun, RefusesRegex, is_write_fault, is_read_fault, is_gate_fault}
+use Rattle.locate_tools.specs.Regexes.{RegexAsked, reading}
+use Rattle.locate_tools.specs.RegexesAsked.{first_refused, refusal_of, refused_or, regexes_of}
 use Rattle.locate_tools.specs.Counted.{CountsAll, statistics_at}
 use Rattle.locate_tools.proofs.CountingAll.{goes_gives}
 use Rattle.locate_tools.proofs.Finding.{Below, FindsAll, Later, asks_some, goes_on_out, none_first, rose_second, goes_finds, goes_later, moves_later, finds_none}
@@ -224,3 +228,61 @@ run_done asked s s' os cause zero other r =
           (λ some. absurd (none (wrote (r.concludes.stops some).0)))
           (λ nowhere. goes_on_out one (databases_of asked) os s r.after (tried_moves (work_of asked) (query_of asked)) r.goes nowhere out));
     }
+
+-- ---- what `locate` does
+
+-- memory ran out
+pub does_nothing : (asked : LocateAsked) (s : Standing) → LocateDoes asked s s [] causes.OutOfMemory
+does_nothing asked s = by (refusal_of asked) where
+  by : (r : Option Cause) → MatchOption r (LocateRun asked s s [] causes.OutOfMemory) (λ refusal. RefusesRegex refusal s s [] causes.OutOfMemory)
+  by None = run_nothing asked s
+  by (Some refusal) = record { answer = inr refl; none = refl; same = refl }
+
+-- no expression is refused
+pub does_run : (asked : LocateAsked) (s s' : Standing) (os : List Outcome) (cause : Cause) → refusal_of asked ≡ None → LocateRun asked s s' os cause → LocateDoes asked s s' os cause
+does_run asked s s' os cause none run =
+    subst (λ (r : Option Cause). MatchOption r (LocateRun asked s s' os cause) (λ refusal. RefusesRegex refusal s s' os cause)) (sym none) run
+
+-- one is refused, or memory ran out
+pub does_refuse : (asked : LocateAsked) (s : Standing) (cause : Cause) → (cause ≡ causes.OutOfMemory) ⊎ (refusal_of asked ≡ Some cause) → LocateDoes asked s s [] cause
+does_refuse asked s cause why = ⊎_elim
+    (λ memory. subst (λ (c : Cause). LocateDoes asked s s [] c) (sym memory) (does_nothing asked s))
+    (λ refused. subst (λ (r : Option Cause). MatchOption r (LocateRun asked s s [] cause) (λ refusal. RefusesRegex refusal s s [] cause)) (sym refused)
+    (record { answer = inl refl; none = refl; same = refl }))
+    why
+
+-- a run that ended before the first database
+pub does_untried : (asked : LocateAsked) (s : Standing) (os : List Outcome) (cause cause' : Cause) → os ≡ [] → cause' ≡ cause → (cause ≡ causes.OutOfMemory) ⊎ (refusal_of asked ≡ Some cause) → LocateDoes asked s s os cause'
+does_untried asked s os cause cause' none is why =
+    subst (λ (l : List Outcome). LocateDoes asked s s l cause') (sym none) (subst (λ (c : Cause). LocateDoes asked s s [] c) (sym is) (does_refuse asked s cause why))
+
+pub not_both : (r : Option Cause) → r ≡ None → IsSome r → ⊥
+not_both None none some = let off : false ≡ true = some in absurd cc
+not_both (Some refusal) none some = absurd cc
+
+not_usage_here : (number : ℕ) (r : Result Expression RegexFault) (later : Option Cause) (cause : Cause) → (later ≡ Some cause → ⊥) → refused_or number r later ≡ Some cause → cause ≡ causes.Usage → ⊥
+not_usage_here number (Ok e) later cause none is usage = none is
+not_usage_here number (Err fault) later cause none is usage =
+    let both : Some (causes.BadRegex number fault.place fault.cause) ≡ Some causes.Usage = is ∙ ap (λ (c : Cause). Some c) usage in absurd cc
+
+first_no_usage : (number : ℕ) (regexes : List RegexAsked) (cause : Cause) → first_refused number regexes ≡ Some cause → cause ≡ causes.Usage → ⊥
+first_no_usage number [] cause is usage = absurd cc
+first_no_usage number (regex ∷ regexes) cause is usage =
+    not_usage_here number (reading regex) (first_refused (number + 1) regexes) cause (λ later. first_no_usage (number + 1) regexes cause later usage) is usage
+
+pub refused_no_usage : (asked : LocateAsked) (cause : Cause) → (cause ≡ causes.OutOfMemory) ⊎ (refusal_of asked ≡ Some cause) → cause ≡ causes.Usage → ⊥
+refused_no_usage asked cause why usage = ⊎_elim
+    (λ memory. let both : causes.OutOfMemory ≡ causes.Usage = sym memory ∙ usage in absurd cc)
+    (λ refused. by (seeks_expressions asked) refused)
+    why
+  where
+    by : (seeks : Bool) → (if seeks then first_refused 0 (regexes_of asked) else None) ≡ Some cause → ⊥
+    by true is = first_no_usage 0 (regexes_of asked) cause is usage
+    by false is = absurd cc
+
+-- nothing is held back
+pub does_pass_on : (asked : LocateAsked) (s s' : Standing) (os : List Outcome) (cause : Cause) → LocateDoes asked s s' os cause → (Rose s.writes_failed s'.writes_failed → ⊥) → s.held_back ≡ 0 → s'.held_back ≡ 0
+does_pass_on asked s s' os cause does sound out = by (refusal_of asked) does where
+  by : (r : Option Cause) → MatchOption r (LocateRun asked s s' os cause) (λ refusal. RefusesRegex refusal s s' os cause) → s'.held_back ≡ 0
+  by None run = run.passed_on sound out
+  by (Some refusal) refused = ap (λ (t : Standing). t.held_back) refused.same ∙ out

@@ -1,11 +1,11 @@
 -- What is told of a run, by what it was to do.
-use Rattle.std.proofs.Common.{◌≡◌, ℕ, Bool, true, false, List, [], ◌++◌, Option, Some, None, cond, refl, sym, ap, ◌∙◌}
+use Rattle.std.proofs.Common.{◌≡◌, ℕ, Bool, true, false, List, [], ◌++◌, Option, Some, None, refl, sym, ap, ◌∙◌}
 use Rattle.std.specs.Prelude.{option_map}
 use Rattle.locate_engine.specs.declared.outcome.Outcome.{Outcome}
 use Rattle.tool_words.specs.Asked.{Asked, Updatedb, Locate, Convert, Exercise, asked, asked_of}
 use Rattle.tool_words.specs.Convert.{ConvertAsked}
 use Rattle.tool_words.specs.Exercise.{ExerciseAsked}
-use Rattle.tool_words.specs.Locate.{LocateAsked, locate_asked, seeks_expressions}
+use Rattle.tool_words.specs.Locate.{LocateAsked, locate_asked}
 use Rattle.tool_words.specs.Updatedb.{UpdatedbAsked, updatedb_asked}
 use Rattle.tool_words.specs.Convert.{convert_asked}
 use Rattle.tool_words.specs.Exercise.{exercise_asked}
@@ -35,10 +35,7 @@ updatedb_only (Some u) a is = let same : Updatedb u ≡ a = cc in ap tool_for sa
 
 locate_only : (o : Option LocateAsked) (a : Asked) → (option_map Locate o >>= built) ≡ Some a → tools.Locate ≡ tool_for a
 locate_only None a is = absurd cc
-locate_only (Some l) a is = by (seeks_expressions l) is where
-  by : (held : Bool) → cond held None (Some (Locate l)) ≡ Some a → tools.Locate ≡ tool_for a
-  by true e = absurd cc
-  by false e = let same : Locate l ≡ a = cc in ap tool_for same
+locate_only (Some l) a is = let same : Locate l ≡ a = cc in ap tool_for same
 
 convert_never : (o : Option ConvertAsked) (a : Asked) → (option_map Convert o >>= built) ≡ Some a → ⊥
 convert_never None a is = absurd cc

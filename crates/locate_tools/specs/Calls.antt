@@ -1,8 +1,7 @@
 -- A call, and what it asks of a run.
-use Rattle.std.specs.Prelude.{ℕ, List, [], Option, Some, None, if◌then◌else◌}
+use Rattle.std.specs.Prelude.{ℕ, List, [], Option, Some, None}
 use Rattle.path_order.specs.Stamp.{Moment}
 use Rattle.tool_words.specs.Asked.{Asked, Updatedb, Locate, Convert, Exercise, asked}
-use Rattle.tool_words.specs.Locate.{seeks_expressions}
 use Rattle.tool_words.specs.Values.{◌>>=◌}
 use Rattle.tool_words.specs.Tools.{speaker, tool_of}
 use Rattle.database_update.specs.SettingsFiles.{name_of}
@@ -26,10 +25,10 @@ tool_called call = tool_of call.words
 abbrev pub speaker_of : CallMade → List ℕ
 speaker_of call = speaker (tool_called call)
 
--- the work of a tool that is built: `convert`, `exercise` and the search for regular expressions are not built yet
+-- the work of a tool that is built: `convert` and `exercise` are not built yet
 abbrev pub built : Asked → Option Asked
 built (Updatedb settings) = Some (Updatedb settings)
-built (Locate settings) = if seeks_expressions settings then None else Some (Locate settings)
+built (Locate settings) = Some (Locate settings)
 built (Convert settings) = None
 built (Exercise settings) = None
 

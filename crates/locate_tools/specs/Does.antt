@@ -1,5 +1,5 @@
 -- What a run does.
-use Rattle.std.specs.Prelude.{◌≡◌, ◌≤◌, ◌⊎◌, [], Option, Some, None}
+use Rattle.std.specs.Prelude.{◌≡◌, ◌≤◌, ◌⊎◌, [], IsSome, Option, Some, None}
 use Rattle.std.specs.Io.KnownBytes.{Appends}
 use Rattle.path_order.specs.Stamp.{Moment}
 use Rattle.loc_outside.specs.Causes.{Rose}
@@ -13,7 +13,8 @@ use Rattle.locate_tools.specs.declared.answer.Cause.TheVariants as causes
 use Rattle.locate_tools.specs.declared.answer.Ending.{Ending}
 use Rattle.locate_tools.specs.Calls.{CallMade, request_of, tool_called}
 use Rattle.locate_tools.specs.LocateExact.{databases_of}
-use Rattle.locate_tools.specs.LocateRun.{LocateRun}
+use Rattle.locate_tools.specs.LocateRun.{LocateDoes}
+use Rattle.locate_tools.specs.RegexesAsked.{refusal_of}
 use Rattle.locate_tools.specs.Standing.{Standing}
 use Rattle.locate_tools.specs.Statuses.{status_of}
 use Rattle.locate_tools.specs.Told.{told}
@@ -43,7 +44,7 @@ pub record Refuses (ending : Ending) : Type 0 where
 
 -- They ask for a search of databases, or for their statistics.
 pub record RunsLocate (asked : LocateAsked) (before : Snapshot) (ending : Ending) (after : Snapshot) : Type 0 where
-  pub run : LocateRun asked (standing_in before) (standing_in after) ending.outcomes ending.cause
+  pub run : LocateDoes asked (standing_in before) (standing_in after) ending.outcomes ending.cause
   pub accepted : ending.cause ≡ causes.Usage → ⊥
 
 -- They ask for a database of a tree.
@@ -74,12 +75,13 @@ pub record Does (call : CallMade) (before : Snapshot) (ending : Ending) (after :
 
 -- ---- what is not touched
 
--- `locate` does not touch the reader, the gate and standard output where memory ran out, nor the first two where the limit
--- is 0; never the tree and the output.
+-- `locate` does not touch the reader, the gate and standard output where memory ran out or an expression is refused, nor the
+-- first two where the limit is 0; never the tree and the output.
 pub record LeavesLocate (asked : LocateAsked) (cause : Cause) (reader tree gate output out : Type 0) : Type 0 where
   pub tree_same : tree
   pub output_same : output
   pub unopened : cause ≡ causes.OutOfMemory → reader × gate × out
+  pub refused : IsSome (refusal_of asked) → reader × gate × out
   pub unasked : databases_of asked ≡ [] → reader × gate
 
 -- Which of the reader, the tree, the gate, the output and standard output are just as they were.

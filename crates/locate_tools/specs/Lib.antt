@@ -4,7 +4,10 @@ pub mod Messages
 pub mod Told
 pub mod Statuses
 pub mod Standing
+pub mod Regexes
+pub mod RegexesAsked
 pub mod LocateExact
+pub mod LocateMatcher
 pub mod Work
 pub mod Tried
 pub mod Counted

@@ -6,8 +6,8 @@ use Rattle.std.specs.Io.KnownBytes.{Appends}
 use Rattle.loc_outside.specs.Files.{Files}
 use Rattle.loc_outside.specs.Gates.{Tests}
 use Rattle.byte_feed.specs.Paths.{PathAt}
-use Rattle.glob_match.specs.Pattern.{wanted as pattern_wanted}
-use Rattle.tool_words.specs.Locate.{LocateAsked}
+use Rattle.glob_match.specs.Pattern.{Wanted, wanted as pattern_wanted}
+use Rattle.tool_words.specs.Locate.{LocateAsked, seeks_expressions}
 use Rattle.locate_engine.specs.Globs.{sought_of}
 use Rattle.locate_engine.specs.Passing.{rule_of, passing, up_to}
 use Rattle.locate_engine.specs.Searched.{outcome_of, at_limit}
@@ -16,14 +16,20 @@ use Rattle.any_db.specs.Formats.{contents, is_gated}
 use Rattle.locate_engine.specs.declared.query.Query.{Query}
 use Rattle.locate_engine.specs.declared.outcome.Outcome.{Outcome}
 use Rattle.locate_engine.specs.declared.outcome.Outcome.TheVariants as outcomes
+use Rattle.locate_tools.specs.Regexes.{sought_of as sought_of_regexes}
+use Rattle.locate_tools.specs.RegexesAsked.{regexes_of}
 use Rattle.locate_tools.specs.Work.{Work, Search, Statistics}
 use Rattle.locate_tools.specs.declared.answer.Cause.{Cause}
 use Rattle.locate_tools.specs.declared.answer.Cause.TheVariants as causes
 
+-- the patterns of the words that are no expressions
+abbrev pub globs_of : LocateAsked → List Wanted
+globs_of asked = if seeks_expressions asked then [] else map (λ pattern. pattern_wanted pattern asked.fold) asked.patterns
+
 -- the query of the words
 abbrev pub query_of : LocateAsked → Query
 query_of asked = record {
-  globs = map (λ pattern. pattern_wanted pattern asked.fold) asked.patterns;
+  globs = globs_of asked;
   all = asked.all;
   base = asked.base;
   existing = asked.existing;
@@ -33,9 +39,10 @@ query_of asked = record {
   count_only = asked.count_only;
 }
 
--- what the words look for
+-- what the words look for: their expressions or their patterns
 abbrev pub sought_by : LocateAsked → Sought
-sought_by asked = sought_of (query_of asked)
+sought_by asked =
+    if seeks_expressions asked then sought_of_regexes (regexes_of asked) asked.all asked.base else sought_of (query_of asked)
 
 -- what is done with each database
 abbrev pub work_by : Bool → Sought → Work

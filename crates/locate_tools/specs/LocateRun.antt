@@ -1,5 +1,5 @@
 -- What a run of `locate` does, whatever failed.
-use Rattle.std.specs.Prelude.{◌≡◌, ℕ, ◌+◌, ◌≤◌, min, Bool, true, false, List, [], ◌∷◌, ◌++◌, Option, Some, IsTrue, decimal, length, filter, if◌then◌else◌}
+use Rattle.std.specs.Prelude.{◌≡◌, ℕ, ◌+◌, ◌≤◌, ◌⊎◌, min, Bool, true, false, List, [], ◌∷◌, ◌++◌, Option, Some, IsTrue, MatchOption, decimal, length, filter, if◌then◌else◌}
 use Rattle.std.specs.List.{list_any}
 use Rattle.std.specs.Io.KnownBytes.{Appends}
 use Rattle.loc_outside.specs.Causes.{Rose, last_count}
@@ -11,6 +11,7 @@ use Rattle.locate_engine.specs.declared.outcome.Outcome.TheVariants as outcomes
 use Rattle.locate_tools.specs.Standing.{Standing, Goes, IsComplete}
 use Rattle.locate_tools.specs.Counted.{CountsAll}
 use Rattle.locate_tools.specs.LocateExact.{World, Locates, may_ask_gate, query_of, databases_of, cause_of, work_of}
+use Rattle.locate_tools.specs.RegexesAsked.{refusal_of}
 use Rattle.locate_tools.specs.Tried.{NoneFailed, Tried}
 use Rattle.locate_tools.specs.declared.answer.Cause.{Cause}
 use Rattle.locate_tools.specs.declared.answer.Cause.TheVariants as causes
@@ -79,3 +80,14 @@ pub record LocateRun (asked : LocateAsked) (s s' : Standing) (outcomes : List Ou
   pub write_failed : list_any is_write_fault outcomes ≡ true → cause ≡ causes.WriteFault
   pub number_only : cause ≡ causes.WriteFault → list_any is_write_fault outcomes ≡ false → IsTrue (numbers asked)
   pub passed_on : (Rose s.writes_failed s'.writes_failed → ⊥) → s.held_back ≡ 0 → s'.held_back ≡ 0
+
+-- An expression of the words is refused: that is the cause, unless memory ran out, and nothing was done.
+pub record RefusesRegex (refusal : Cause) (s s' : Standing) (outcomes : List Outcome) (cause : Cause) : Type 0 where
+  pub answer : (cause ≡ refusal) ⊎ (cause ≡ causes.OutOfMemory)
+  pub none : outcomes ≡ []
+  pub same : s' ≡ s
+
+-- What `locate` does: a run, unless an expression is refused.
+abbrev pub LocateDoes : LocateAsked → Standing → Standing → List Outcome → Cause → Type 0
+LocateDoes asked s s' outcomes cause =
+    MatchOption (refusal_of asked) (LocateRun asked s s' outcomes cause) (λ refusal. RefusesRegex refusal s s' outcomes cause)

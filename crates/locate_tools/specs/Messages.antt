@@ -5,6 +5,7 @@ use Rattle.byte_feed.specs.declared.damage.DamageCause.{DamageCause}
 use Rattle.byte_feed.specs.declared.damage.DamageCause.TheVariants as damages
 use Rattle.mount_table.specs.declared.fault.MountCause.{MountCause}
 use Rattle.mount_table.specs.declared.fault.MountCause.TheVariants as mounts
+use Rattle.posix_regex.specs.Texts.{text_of as regex_text}
 use Rattle.updatedb_conf.specs.Texts.{text_of as conf_text}
 use Rattle.locate_engine.specs.declared.outcome.Outcome.{Outcome}
 use Rattle.locate_engine.specs.declared.outcome.Outcome.TheVariants as outcomes
@@ -59,6 +60,10 @@ unfoldable pub damage_line : List ℕ → List ℕ → List ℕ → List ℕ →
 damage_line tool name place text =
     concat (tool ∷ codes ": " ∷ name ∷ codes ": damaged at byte " ∷ place ∷ codes ": " ∷ text ∷ codes "\n" ∷ [])
 
+-- a line about a byte of an expression, whose place is given by its digits
+unfoldable pub regex_line : List ℕ → List ℕ → List ℕ → List ℕ
+regex_line tool text place = concat (tool ∷ codes ": bad regular expression: " ∷ text ∷ codes " at byte " ∷ place ∷ codes "\n" ∷ [])
+
 -- ---- what is told
 
 -- what is told of a database: nothing where it was searched whole or up to the limit, and a failed write is told as the
@@ -81,6 +86,7 @@ cause_message tool subject causes.NoMatch = []
 cause_message tool subject causes.Usage = line tool (codes "bad usage")
 cause_message tool subject (causes.BadConf number fault) = numbered_line tool subject (decimal number) (conf_text fault)
 cause_message tool subject (causes.BadMount number fault) = numbered_line tool subject (decimal number) (mount_text fault)
+cause_message tool subject (causes.BadRegex pattern place fault) = regex_line tool (regex_text fault) (decimal place)
 cause_message tool subject causes.RootMissing = line_about tool subject (codes "no such directory")
 cause_message tool subject (causes.ReadFault file) = line_about tool subject (codes "read fault")
 cause_message tool subject causes.WriteFault = line tool (codes "write fault")

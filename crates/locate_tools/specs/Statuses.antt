@@ -20,6 +20,7 @@ status_of tool causes.NoMatch = 1
 status_of tool causes.Usage = 1
 status_of tool (causes.BadConf line fault) = 1
 status_of tool (causes.BadMount line fault) = 1
+status_of tool (causes.BadRegex pattern place fault) = 1
 status_of tool causes.RootMissing = 1
 status_of tool (causes.ReadFault file) = 1
 status_of tool causes.WriteFault = write_status tool

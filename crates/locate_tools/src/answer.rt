@@ -5,6 +5,7 @@ ghost use Rattle.locate_tools.specs.Statuses.{status_of, write_status as status_
 use database_update::SettingsFile;
 use locate_engine::Outcome;
 use mount_table::MountCause;
+use posix_regex::RegexCause;
 use std::marker::Model;
 use tool_words::Tool;
 use updatedb_conf::ConfCause;
@@ -19,9 +20,21 @@ pub enum Cause {
     /// There is no such tool, or the other words break a rule of its command line.
     Usage,
     /// The configuration is refused. The line is counted from 1, and 0 where the file is too long.
-    BadConf { line: u64, fault: ConfCause },
+    BadConf {
+        line: u64,
+        fault: ConfCause,
+    },
     /// The mount table is refused. The line is counted from 1, and 0 where the file is too long.
-    BadMount { line: u64, fault: MountCause },
+    BadMount {
+        line: u64,
+        fault: MountCause,
+    },
+    /// The expression of this number, counted from 0, is refused at this byte.
+    BadRegex {
+        pattern: u64,
+        place: u64,
+        cause: RegexCause,
+    },
     /// There is no directory that is to be scanned.
     RootMissing,
     /// This file, which `updatedb` needs, could not be opened or read.
@@ -55,7 +68,8 @@ impl Cause {
         match self {
             Cause::Done => 0,
             Cause::NoMatch | Cause::Usage | Cause::RootMissing => 1,
-            Cause::BadConf { .. } | Cause::BadMount { .. } | Cause::ReadFault(_) => 1,
+            Cause::BadConf { .. } | Cause::BadMount { .. } | Cause::BadRegex { .. } => 1,
+            Cause::ReadFault(_) => 1,
             Cause::WriteFault => write_status(tool),
             Cause::OutOfMemory => 3,
             Cause::TreeFault => 4,

@@ -4,7 +4,7 @@ ghost use Rattle.std.specs.List.{flat_map};
 ghost use Rattle.std.specs.Io.KnownBytes.{Appends};
 ghost use Rattle.loc_outside.specs.Causes.{HasCause};
 ghost use Rattle.loc_outside.specs.Outside.{AppendsPart};
-ghost use Rattle.locate_tools.specs.Messages.{damage_line, line, line_about, numbered_line, text_of};
+ghost use Rattle.locate_tools.specs.Messages.{damage_line, line, line_about, numbered_line, regex_line, text_of};
 
 use byte_feed::{Damage, DamageCause};
 use itoa::Buffer;
@@ -159,6 +159,44 @@ fn tell_with_digits<E: Sink>(
             number,
             b": ",
             text,
+            b"\n",
+        ],
+    )
+}
+
+/// Writes a line about a byte of a regular expression.
+pub(crate) fn tell_regex<E: Sink>(
+    err: &mut E,
+    tool: &str,
+    text: &[u8],
+    place: u64,
+) -> Result<(), Failed>
+    ensures ok { OnOk result (Appends (E.taken err.old) (E.taken err.new) (regex_line tool.now text.now (decimal place))) }
+    ensures part { OnErr result (AppendsPart (E.taken err.old) (E.taken err.new) (regex_line tool.now text.now (decimal place))) }
+    ensures cause { HasCause (E.faults err.old) (E.faults err.new) result }
+    ensures kept { E.kept err.old err.new }
+{
+    let mut digits = Buffer::new();
+    let place = digits.format(place).as_bytes();
+    tell_at_byte(err, tool, text, place)
+}
+
+/// Writes a line about a byte of a regular expression whose place is given by its digits.
+#[tactic(auto, unfolding(crate::specs::Messages::regex_line))]
+fn tell_at_byte<E: Sink>(err: &mut E, tool: &str, text: &[u8], place: &[u8]) -> Result<(), Failed>
+    ensures ok { OnOk result (Appends (E.taken err.old) (E.taken err.new) (regex_line tool.now text.now place.now)) }
+    ensures part { OnErr result (AppendsPart (E.taken err.old) (E.taken err.new) (regex_line tool.now text.now place.now)) }
+    ensures cause { HasCause (E.faults err.old) (E.faults err.new) result }
+    ensures kept { E.kept err.old err.new }
+{
+    put_pieces(
+        err,
+        &[
+            tool.as_bytes(),
+            b": bad regular expression: ",
+            text,
+            b" at byte ",
+            place,
             b"\n",
         ],
     )

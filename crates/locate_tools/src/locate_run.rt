@@ -1,5 +1,5 @@
 //! The run of `locate`.
-ghost use Rattle.std.specs.Prelude.{◌≡◌, ◌≤◌, ◌<◌, ◌+◌, ◌^◌, ◌↔◌, ◌++◌, [], ◌∷◌, length, map, IfOk, IfSome, OnOk, OnErr, false, vec_capacity, decimal};
+ghost use Rattle.std.specs.Prelude.{◌≡◌, ◌≤◌, ◌<◌, ◌+◌, ◌^◌, ◌↔◌, ◌++◌, [], ◌∷◌, length, map, IfOk, IfSome, IsSome, OnOk, OnErr, false, vec_capacity, decimal};
 ghost use Rattle.std.specs.List.{list_any};
 ghost use Rattle.std.specs.Io.KnownBytes.{Appends};
 ghost use Rattle.loc_outside.specs.Causes.{HasCause};
@@ -7,19 +7,21 @@ ghost use Rattle.loc_outside.specs.Outside.{AppendsPart};
 ghost use Rattle.locate_engine.specs.Sought.{Sought};
 ghost use Rattle.glob_match.specs.Pattern.{wanted as pattern_wanted};
 ghost use Rattle.tool_words.specs.LocateSeen.{seen};
-ghost use Rattle.locate_tools.specs.LocateExact.{databases_of as databases_asked, query_of as query_asked, work_by};
-ghost use Rattle.locate_tools.specs.LocateRun.{Concludes, LocateRun, cause_after as cause_by, is_write_fault};
+ghost use Rattle.locate_tools.specs.LocateExact.{databases_of as databases_asked, globs_of as globs_asked, query_of as query_asked, work_by};
+ghost use Rattle.locate_tools.specs.LocateRun.{Concludes, LocateDoes, cause_after as cause_by, is_write_fault};
+ghost use Rattle.locate_tools.specs.RegexesAsked.{refusal_of};
 ghost use Rattle.locate_tools.specs.Standing.{Goes, IsComplete};
 ghost use Rattle.locate_tools.specs.Tried.{Tried, work_for};
 ghost use Rattle.locate_tools.specs.Told.{TellsAs, messages};
 
 use crate::answer::{Cause, Outcomes};
 use crate::databases::{Work, ends_run, try_database};
+use crate::locate_matcher::matcher_of;
 use crate::statistics_text::put_number;
 use crate::telling::tell_after;
 use glob_match::{Glob, Steps};
 use loc_outside::{BufferedSink, Failed, Gate, Reader, Sink};
-use locate_engine::{GlobMatcher, Globs, Matcher, Outcome, Query, Tally};
+use locate_engine::{Globs, Matcher, Outcome, Query, Tally};
 use std::alloc::{AllocError, Global};
 use std::sync::ledger::{Blank, Ledger};
 use tool_words::LocateSettings;
@@ -35,11 +37,21 @@ fn read_patterns(alloc: Global, patterns: &[&str], fold: bool) -> Result<Globs, 
     Ok(globs)
 }
 
+/// The patterns that are no expressions.
+fn globs_of(alloc: Global, asked: &LocateSettings<'_>) -> Result<Globs, AllocError>
+    ensures { IfOk result (λ globs. globs ≡ globs_asked (seen asked.now)) }
+{
+    if asked.seeks_expressions() {
+        return Ok(Globs::new(alloc));
+    }
+    read_patterns(alloc, asked.patterns.as_slice(), asked.fold)
+}
+
 /// What is searched for.
 fn query_of(alloc: Global, asked: &LocateSettings<'_>) -> Result<Query, AllocError>
     ensures { IfOk result (λ query. query ≡ query_asked (seen asked.now)) }
 {
-    let globs = read_patterns(alloc, asked.patterns.as_slice(), asked.fold)?;
+    let globs = globs_of(alloc, asked)?;
     Ok(Query {
         globs,
         all: asked.all,
@@ -211,18 +223,19 @@ pub struct Located {
     pub silent: bool,
 }
 
-fn out_of_memory(alloc: Global) -> Located
-    ensures { (result.cause ≡ Cause.OutOfMemory) × (result.outcomes ≡ []) × (result.silent ≡ false) }
+/// What a run comes to that ends before the first database.
+fn untried(alloc: Global, cause: Cause) -> Located
+    ensures { (result.cause ≡ cause) × (result.outcomes ≡ []) × (result.silent ≡ false) }
 {
     Located {
-        cause: Cause::OutOfMemory,
+        cause,
         outcomes: Outcomes::new(Vec::new(alloc)),
         silent: false,
     }
 }
 
-/// Searches the databases, or writes their statistics, and tells of each how it ended. All memory is taken before the
-/// first database is opened.
+/// Searches the databases, or writes their statistics, and tells of each how it ended. All expressions are read, and all
+/// memory is taken, before the first database is opened.
 pub fn locate<R: Reader, G: Gate, P: BufferedSink, E: Sink, L: Ledger>(
     alloc: Global,
     asked: &LocateSettings<'_>,
@@ -236,7 +249,8 @@ pub fn locate<R: Reader, G: Gate, P: BufferedSink, E: Sink, L: Ledger>(
     requires blank_parts { blank.parts ≡ L.parts }
     requires has_part { 0 < L.parts }
     ensures no_memory { result.cause ≡ Cause.OutOfMemory → (result.outcomes ≡ []) × (reader.new ≡ reader.old) × (gate.new ≡ gate.old) × (out.new ≡ out.old) × (err.new ≡ err.old) }
-    ensures run { LocateRun (seen asked.now)
+    ensures refused { IsSome (refusal_of (seen asked.now)) → (result.outcomes ≡ []) × (reader.new ≡ reader.old) × (gate.new ≡ gate.old) × (out.new ≡ out.old) × (err.new ≡ err.old) }
+    ensures run { LocateDoes (seen asked.now)
         (record {
           files = R.files reader.old;
           given = R.given reader.old;
@@ -273,15 +287,18 @@ pub fn locate<R: Reader, G: Gate, P: BufferedSink, E: Sink, L: Ledger>(
     ensures err_later { E.faults err.old ≤ E.faults err.new }
 {
     let Ok(query) = query_of(alloc, asked) else {
-        return out_of_memory(alloc);
+        return untried(alloc, Cause::OutOfMemory);
+    };
+    let mut matcher = match matcher_of(alloc, asked, &query) {
+        Ok(matcher) => matcher,
+        Err(cause) => return untried(alloc, cause),
     };
     let names = databases_of(asked);
     let Ok(mut outcomes) = Vec::with_capacity(alloc, names.len()) else {
-        return out_of_memory(alloc);
+        return untried(alloc, Cause::OutOfMemory);
     };
     let mut tally = Tally { matched: 0 };
     let mut steps = Steps::<L>::new(blank);
-    let mut matcher = GlobMatcher::new(&query);
     let silent = try_databases(
         asked,
         &mut matcher,

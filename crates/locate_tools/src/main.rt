@@ -9,8 +9,13 @@ mod databases;
 #[cfg(test)]
 mod format_tests;
 mod lines;
+mod locate_matcher;
 mod locate_run;
 mod messages;
+mod regex_matcher;
+#[cfg(test)]
+mod regex_tests;
+mod regexes;
 mod run;
 mod statistics_text;
 mod task;

@@ -7,7 +7,7 @@ ghost use Rattle.locate_tools.specs.Calls.{update_subject as subject_of_update};
 ghost use Rattle.locate_tools.specs.Messages.{cause_message, mount_text as text_of_mount, outcome_message};
 
 use crate::answer::Cause;
-use crate::lines::{put_pieces, tell, tell_about, tell_damage, tell_numbered};
+use crate::lines::{put_pieces, tell, tell_about, tell_damage, tell_numbered, tell_regex};
 use database_update::SettingsFile;
 use loc_outside::{Failed, Sink};
 use locate_engine::Outcome;
@@ -84,6 +84,11 @@ pub fn tell_cause<E: Sink>(
         Cause::BadMount { line, fault } => {
             tell_numbered(err, tool, subject, line, mount_text(fault))
         }
+        Cause::BadRegex {
+            pattern: _,
+            place,
+            cause,
+        } => tell_regex(err, tool, cause.text(), place),
         Cause::RootMissing => tell_about(err, tool, subject, b"no such directory"),
         Cause::ReadFault(_) => tell_about(err, tool, subject, b"read fault"),
         Cause::WriteFault => tell(err, tool, b"write fault"),

@@ -1,5 +1,5 @@
 //! The run of a call.
-ghost use Rattle.std.specs.Prelude.{◌≡◌, ◌≤◌, ◌++◌, [], Some};
+ghost use Rattle.std.specs.Prelude.{◌≡◌, ◌≤◌, ◌++◌, [], IsSome, Some};
 ghost use Rattle.std.specs.Io.KnownBytes.{Appends};
 ghost use Rattle.loc_outside.specs.Causes.{Rose};
 ghost use Rattle.loc_outside.specs.Outside.{AppendsPart};
@@ -10,7 +10,8 @@ ghost use Rattle.locate_tools.specs.Calls.{request_of, update_subject as subject
 ghost use Rattle.locate_tools.specs.Does.{Does, Leaves};
 ghost use Rattle.locate_tools.specs.LocateExact.{databases_of};
 ghost use Rattle.locate_tools.specs.Messages.{cause_message};
-ghost use Rattle.locate_tools.specs.LocateRun.{LocateRun};
+ghost use Rattle.locate_tools.specs.LocateRun.{LocateDoes};
+ghost use Rattle.locate_tools.specs.RegexesAsked.{refusal_of};
 ghost use Rattle.locate_tools.specs.Statuses.{status_of};
 ghost use Rattle.locate_tools.specs.Told.{messages};
 ghost use Rattle.locate_tools.specs.UpdatedbRun.{UpdatedbRun};
@@ -66,7 +67,8 @@ fn run_locate<R: Reader, G: Gate, P: BufferedSink, E: Sink>(
     ensures usage { result.cause ≡ Cause.Usage → ⊥ }
     ensures none { databases_of (locate_seen asked.now) ≡ [] → (reader.new ≡ reader.old) × (gate.new ≡ gate.old) }
     ensures unopened { result.cause ≡ Cause.OutOfMemory → (reader.new ≡ reader.old) × (gate.new ≡ gate.old) × (out.new ≡ out.old) }
-    ensures run { LocateRun (locate_seen asked.now)
+    ensures refused { IsSome (refusal_of (locate_seen asked.now)) → (reader.new ≡ reader.old) × (gate.new ≡ gate.old) × (out.new ≡ out.old) }
+    ensures run { LocateDoes (locate_seen asked.now)
         (record {
           files = R.files reader.old;
           given = R.given reader.old;

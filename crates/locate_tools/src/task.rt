@@ -13,20 +13,13 @@ pub enum Task<'a> {
     Locate(LocateSettings<'a>),
 }
 
-/// The work that was asked for, or None where it is not built yet: `convert`, `exercise`, and the search for regular
-/// expressions.
+/// The work that was asked for, or None where it is not built yet: `convert` and `exercise`.
 pub fn task_of<'a>(request: Request<'a>) -> Option<Task<'a>>
     ensures { MatchOption result (built (seen request.entry) ≡ None) (λ task. built (seen request.entry) ≡ Some (asked_by task)) }
 {
     match request {
         Request::Updatedb(asked) => Some(Task::Updatedb(asked)),
-        Request::Locate(asked) => {
-            if asked.seeks_expressions() {
-                None
-            } else {
-                Some(Task::Locate(asked))
-            }
-        }
+        Request::Locate(asked) => Some(Task::Locate(asked)),
         Request::Convert(_) => None,
         Request::Exercise(_) => None,
     }

@@ -160,7 +160,7 @@ fn stored(alloc: Global) -> Result<MemFiles, AllocError> {
 }
 
 /// Whether each row, a line of words and behind `>` the report of its run, holds.
-fn rows_hold(
+pub fn rows_hold(
     alloc: Global,
     rows: &str,
     files: &mut MemFiles,
@@ -180,7 +180,7 @@ fn rows_hold(
 }
 
 /// The same, over the stored files and a gate that shows all.
-fn plain_rows_hold(alloc: Global, rows: &str) -> Result<bool, AllocError> {
+pub fn plain_rows_hold(alloc: Global, rows: &str) -> Result<bool, AllocError> {
     let mut files = stored(alloc)?;
     let mut gate = MemGate::new(alloc);
     rows_hold(alloc, rows, &mut files, &mut gate)

@@ -7,6 +7,7 @@ use Rattle.locate_tools.specs.Calls.{tool_called}
 use Rattle.locate_tools.specs.Statuses.{status_of}
 use Rattle.locate_tools.specs.declared.answer.Cause.TheVariants as causes
 use Rattle.locate_tools.proofs.Doing.{does_by, leaves_all, leaves_locate, leaves_updatedb, told_by, works_locate, works_memory, works_refused, works_updatedb}
+use Rattle.locate_tools.proofs.Runs.{does_pass_on}
 use Rattle.locate_tools.proofs.ToldOf.{told_locate, told_memory, told_refused, told_updatedb, tool_of_locate, tool_of_updatedb}
 use Rattle.locate_tools.proofs.run.run.Goals as goal
 
@@ -40,13 +41,13 @@ returns-in-Locate-clause-does g c =
     does_by c.args.call.now _ c.run_locate.result _ _
     (works_locate _ (locate_seen c.in-Locate.asked) _ _ _ _ asks (record { run = said.run; accepted = said.usage }))
     (said.status ∙ ap (λ (t : Option Tool). status_of t c.run_locate.result.cause) (sym (tool_of_locate _ _ asks)))
-    (told_locate _ _ c.run_locate.result.outcomes c.run_locate.result.cause asks) said.told said.told_part said.run.passed_on said.files said.err_later
+    (told_locate _ _ c.run_locate.result.outcomes c.run_locate.result.cause asks) said.told said.told_part (does_pass_on _ _ _ _ _ said.run) said.files said.err_later
 
 pub returns-in-Locate-clause-leaves : goal.returns-in-Locate-clause-leaves
 returns-in-Locate-clause-leaves g c =
     let said = c.run_locate.ensures in
     let asks = rw c.in-Locate.is at c.in-Ok.ensures.accepted in
-    leaves_locate _ (locate_seen c.in-Locate.asked) _ _ _ _ _ _ asks (record { tree_same = refl; output_same = refl; unopened = said.unopened; unasked = said.none })
+    leaves_locate _ (locate_seen c.in-Locate.asked) _ _ _ _ _ _ asks (record { tree_same = refl; output_same = refl; unopened = said.unopened; refused = said.refused; unasked = said.none })
 
 pub returns-in-Updatedb-clause-does : goal.returns-in-Updatedb-clause-does
 returns-in-Updatedb-clause-does g c =
