@@ -8,7 +8,7 @@ use std::test::Fail;
 use tree_scan::{Rules, Voucher};
 use updatedb_conf::{conf_block, read_conf};
 
-/// Row 1's header for the root `/` and the default configuration, the directories `/`, `/a`, `/a/z` and `/a.b`, each of
+/// A header for the root `/` and the default configuration, the directories `/`, `/a`, `/a/z` and `/a.b`, each of
 /// 1,000 s, in version 0.
 const FOUR: &[u8] =
     b"\0mlocate\0\0\0\x36\0\x01\0\0/\0prune_bind_mounts\x000\0\0prunefs\0\0prunenames\0\0prunepaths\0\0\
