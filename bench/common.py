@@ -111,6 +111,31 @@ def bigram(paths):
     return b"".join(out)
 
 
+def made(count, seed, folder):
+    """Writes a list of paths and databases of three formats. Gives the paths of each, in its order."""
+    subprocess.run([f"{HERE}/make_paths", str(count), str(seed), folder], check=True)
+    with open(f"{folder}/list", "rb") as listed:
+        paths = listed.read().split(b"\n")[:-1]
+    ordered = sorted(paths)
+    with open(f"{folder}/bigram", "wb") as into:
+        into.write(bigram(ordered))
+    with open(f"{folder}/locate02", "wb") as into:
+        if frcode():
+            text = b"".join(path + b"\0" for path in ordered)
+            subprocess.run([frcode(), "-0"], input=text, stdout=into, check=True, env=PLAIN)
+        else:
+            into.write(locate02(ordered))
+    return {"mlocate": paths, "locate02": ordered, "bigram": ordered}
+
+
+def works(name, words):
+    """Whether a search runs here at all: one whose libraries are missing is left out."""
+    status = subprocess.run(words + ["zzqqzz"], stdin=subprocess.DEVNULL, stdout=subprocess.DEVNULL, env=PLAIN).returncode
+    if status not in (0, 1):
+        print(f"{name} ends with status {status}, and is left out", file=sys.stderr)
+    return status in (0, 1)
+
+
 def table(rows):
     """Prints rows of cells, the first to the left and the others to the right."""
     widths = [max(len(row[i]) for row in rows if i < len(row)) for i in range(max(map(len, rows)))]
