@@ -5,6 +5,7 @@ use Rattle.tool_words.specs.Commands.{locate_command}
 use Rattle.tool_words.specs.Matches.{asked_by, is_given, is_used, value_of, values_of}
 use Rattle.tool_words.specs.Values.{◌>>=◌, default_database, number_word, names_in, read_by}
 
+-- the settings of a search
 pub record LocateAsked : Type 0 where
   -- a path is to match all patterns, not one of them
   pub all : Bool
