@@ -21,7 +21,7 @@ pub record LocateAsked : Type 0 where
   pub fold : Bool
   -- the byte after each path
   pub separator : ℕ
-  -- databases that can't be searched whole are passed over in silence
+  -- databases that can't be searched to their end are not reported
   pub quiet : Bool
   -- statistics of the databases are written, and nothing is searched
   pub statistics : Bool
