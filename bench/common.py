@@ -24,7 +24,7 @@ def frcode():
 
 
 def updatedb_of(tool):
-    """The updatedb of mlocate, plocate or findutils. Another's may stand under the plain name, so the version is asked."""
+    """The updatedb of mlocate, plocate or findutils. The plain name may be another's, so the version is checked."""
     for name in (f"updatedb.{tool}", f"/usr/sbin/updatedb.{tool}", f"/usr/bin/updatedb.{tool}", "updatedb"):
         path = found(name)
         if path:
@@ -55,7 +55,7 @@ def timed(words, into=os.devnull, good=(0,), env=PLAIN):
 
 
 def peak(words, folder, env=PLAIN):
-    """The most memory that a run held, in KB, by /usr/bin/time, which is small itself; None where that is not there."""
+    """The most memory that a run held, in KB, by /usr/bin/time, which is small itself; None without it."""
     if not found("/usr/bin/time"):
         return None
     with open(f"{folder}/out", "wb") as out:
@@ -89,7 +89,7 @@ def locate02(paths):
 
 
 def bigram(paths):
-    """A bigram database of these paths: the 128 pairs that come most, and then a piece for each path."""
+    """A bigram database of these paths: the 128 most frequent pairs, and then a piece for each path."""
     counts, rests, before, count = {}, [], b"", 0
     for path in paths:
         now = shared(before, path)

@@ -1,8 +1,8 @@
 # Completion of nisrouv's updatedb in fish.
 complete -c updatedb -f
-complete -c updatedb -s f -l add-prunefs -x -d 'Prune these file system types too'
-complete -c updatedb -s n -l add-prunenames -x -d 'Prune directories of these names too'
-complete -c updatedb -s e -l add-prunepaths -x -a '(__fish_complete_directories)' -d 'Prune these directories too'
+complete -c updatedb -s f -l add-prunefs -x -d 'Also prune these file system types'
+complete -c updatedb -s n -l add-prunenames -x -d 'Also prune directories of these names'
+complete -c updatedb -s e -l add-prunepaths -x -a '(__fish_complete_directories)' -d 'Also prune these directories'
 complete -c updatedb -s U -l database-root -x -a '(__fish_complete_directories)' -d 'The directory to scan'
 complete -c updatedb -s o -l output -r -F -d 'The database to write'
 complete -c updatedb -s l -l require-visibility -x -a 'yes no' -d 'The visibility flag'
@@ -12,4 +12,4 @@ complete -c updatedb -l prunenames -x -d 'Prune directories of these names'
 complete -c updatedb -l prunepaths -x -a '(__fish_complete_directories)' -d 'Prune these directories'
 complete -c updatedb -l db-version -x -a '0 1' -d 'The version of the database'
 complete -c updatedb -l recent-margin -x -d 'The recency margin in seconds'
-complete -c updatedb -s v -l verbose -d 'Print each path that is stored'
+complete -c updatedb -s v -l verbose -d 'Print each stored path'

@@ -77,6 +77,7 @@ abbrev pub has_failed : Sought → Bool
 has_failed sought.Fault = true
 has_failed s = false
 
+-- what an answer says of the records to come, where the source tells its bytes before and after
 abbrev pub AnswersTold : List ℕ → Moment → ℕ → Cursor → Option (List ℕ) → Cursor → Option (List ℕ) → Result Bool AllocError → Listed → Type 0
 AnswersTold dir time device c None c' left' result into = ⊤
 AnswersTold dir time device c (Some l) c' None result into = ⊥

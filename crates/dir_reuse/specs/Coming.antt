@@ -28,6 +28,7 @@ Placed = Record × ℕ
 abbrev pub placed_at : ℕ → ℕ → Head → List Item → List Placed
 placed_at version place head items = map (λ r. (r, place + size_behind items)) (usable_record version head items)
 
+-- the records of all directories among some items, each with that offset
 abbrev pub placed_in : ℕ → ℕ → List Item → List Placed
 placed_in version place [] = []
 placed_in version place (HeadItem head ∷ items) = placed_at version (place + size (HeadItem head)) head items ++ placed_in version (place + size (HeadItem head)) items

@@ -107,6 +107,7 @@ counts_text name directories files name_bytes stored = concat (
     ∷ stored ∷ codes " bytes used to store database\n"
     ∷ [])
 
+-- the statistics of a database, as `locate -S` writes them
 abbrev pub statistics_text : List ℕ → Stats → List ℕ
 statistics_text name stats =
     counts_text name (decimal stats.directories) (decimal stats.files) (decimal stats.name_bytes) (decimal stats.stored)

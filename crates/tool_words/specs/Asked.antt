@@ -10,6 +10,7 @@ use Rattle.tool_words.specs.Updatedb.{UpdatedbAsked, updatedb_asked}
 use Rattle.tool_words.specs.declared.tool.Tool.{Tool}
 use Rattle.tool_words.specs.declared.tool.Tool.TheVariants as tools
 
+-- what a command line asks for: a tool, with its settings
 pub data Asked : Type 0 where
   Updatedb : UpdatedbAsked → Asked
   Locate : LocateAsked → Asked

@@ -53,6 +53,7 @@ bare name = on_top (λ s. record s { disable_help_flag = true; disable_version_f
 abbrev pub command : Text → List Rule → App
 command name rules = fold with_argument (bare name) rules
 
+-- the command line of `updatedb`: that of mlocate's updatedb(8), and this project's own `--db-version` and `--recent-margin`
 unfoldable pub updatedb_command : App
 updatedb_command = command (codes "updatedb") (
     option (codes "add-prunefs") (codes "f")
@@ -69,6 +70,7 @@ updatedb_command = command (codes "updatedb") (
     ∷ long_option (codes "recent-margin")
     ∷ flag (codes "verbose") (codes "v") ∷ [])
 
+-- the command line of `locate`: that of mlocate's locate(1), without `--help`, `--version` and abbreviated long names
 unfoldable pub locate_command : App
 locate_command = command (codes "locate") (
     flag (codes "all") (codes "A")
@@ -92,6 +94,7 @@ locate_command = command (codes "locate") (
     ∷ short_option (codes "n") (codes "n")
     ∷ words_left (codes "PATTERN") ∷ [])
 
+-- the command line of `convert`, which is this project's own
 unfoldable pub convert_command : App
 convert_command = command (codes "convert") (
     long_option (codes "from")
@@ -99,6 +102,7 @@ convert_command = command (codes "convert") (
     ∷ needed_word (codes "INPUT")
     ∷ needed_word (codes "OUTPUT") ∷ [])
 
+-- the command line of `exercise`, which is this project's own
 unfoldable pub exercise_command : App
 exercise_command = command (codes "exercise") (
     needed_word (codes "NUMBER")

@@ -7,6 +7,7 @@ use Rattle.tool_words.specs.Matches.{asked_by, value_of}
 use Rattle.tool_words.specs.Values.{◌>>=◌, read_by}
 use Rattle.tool_words.specs.declared.format.Format.{Format}
 
+-- the settings of a conversion
 pub record ConvertAsked : Type 0 where
   -- the format of the input; where it is not given, the input's own bytes tell it
   pub from : Option Format

@@ -5,6 +5,7 @@ use Rattle.tool_words.specs.Commands.{exercise_command}
 use Rattle.tool_words.specs.Matches.{asked_by, value_of}
 use Rattle.tool_words.specs.Values.{◌>>=◌, number_word, rounds_word}
 
+-- the settings of an exercise: a number, and how many rounds are gone
 pub record ExerciseAsked : Type 0 where
   -- what the generator begins with
   pub number : ℕ

@@ -5,6 +5,7 @@ use Rattle.tool_words.specs.Commands.{locate_command}
 use Rattle.tool_words.specs.Matches.{asked_by, is_given, is_used, value_of, values_of}
 use Rattle.tool_words.specs.Values.{◌>>=◌, default_database, number_word, names_in, read_by}
 
+-- the settings of a search
 pub record LocateAsked : Type 0 where
   -- a path is to match all patterns, not one of them
   pub all : Bool
@@ -20,7 +21,7 @@ pub record LocateAsked : Type 0 where
   pub fold : Bool
   -- the byte after each path
   pub separator : ℕ
-  -- databases that can't be searched whole are passed over in silence
+  -- databases that can't be searched to their end are not reported
   pub quiet : Bool
   -- statistics of the databases are written, and nothing is searched
   pub statistics : Bool

@@ -7,6 +7,7 @@ use Rattle.tool_words.specs.Lists.{is_long, some_word_has_slash}
 use Rattle.tool_words.specs.Values.{◌>>=◌, default_database, is_normal_path, read_by, version_word}
 use Rattle.updatedb_conf.specs.Value.{flag_word, margin_word}
 
+-- the settings of an update
 pub record UpdatedbAsked : Type 0 where
   -- the directory that is scanned
   pub root : Text
