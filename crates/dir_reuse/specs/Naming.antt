@@ -60,7 +60,7 @@ abbrev pub NotPastEnd : ReaderState → Option (List ℕ) → ReaderState → Ty
 NotPastEnd r None r' = ⊤
 NotPastEnd r (Some l) r' = r'.place ≤ r.place + size_behind (items_left r (window r.feed l)).items
 
--- After the names of a record the reader goes on. After want of memory too, and then it is not past their end.
+-- After the names of a record the reader goes on. Where memory ran out too, and then it is not past their end.
 abbrev pub NamesNear : Result Names AllocError → ReaderState → Option (List ℕ) → ReaderState → Type 0
 NamesNear (Ok names.Whole) r left r' = is_live r'.stage ≡ true
 NamesNear (Ok names.Unusable) r left r' = ⊤
