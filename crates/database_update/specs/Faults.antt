@@ -103,7 +103,7 @@ is_of_scan TooManyNames = true
 is_of_scan TooManyDirectories = true
 is_of_scan OutOfMemory = true
 
--- want of memory, told as a refusal of the settings
+-- lack of memory, told as a refusal of the settings
 abbrev pub hides_memory : UpdateFault → Bool
 hides_memory (BadConf line conf_causes.OutOfMemory) = true
 hides_memory (BadConf line cause) = false

@@ -35,7 +35,7 @@ abbrev pub GrowsPart : List ℕ → Option Held → Option Held → Type 0
 GrowsPart text old new = (n : ℕ) × (n ≤ length text) × (new ≡ option_map (grown (take n text)) old)
 
 -- What a fault leaves of the output: a refusal of the settings leaves all as it was; after a fault of the scan the name is
--- begun. A fault of writing, and want of memory, may come before and after.
+-- begun. A fault of writing, and lack of memory, may come before and after.
 abbrev pub LeavesHeld : UpdateFault → List ℕ → List ℕ → Option Held → Option Held → Type 0
 LeavesHeld (BadConf line cause) name text old new = new ≡ old
 LeavesHeld (BadMount line cause) name text old new = new ≡ old
@@ -48,7 +48,7 @@ LeavesHeld TooManyDirectories name text old new = PendsPart name text old new
 LeavesHeld OutOfMemory name text old new = (new ≡ old) ⊎ PendsPart name text old new
 
 -- How many names a fault finds begun: none more after a refusal of the settings, one more after a fault of the scan. A fault
--- of writing, and want of memory, may come before and after.
+-- of writing, and lack of memory, may come before and after.
 abbrev pub Begins : UpdateFault → ℕ → ℕ → Type 0
 Begins (BadConf line cause) old new = new ≡ old
 Begins (BadMount line cause) old new = new ≡ old
