@@ -1,5 +1,5 @@
 -- What contracts see of a voucher that reads forward.
-use Rattle.std.specs.Prelude.{◌≡◌, ◌≤◌, ℕ, Bool, true, false, ◌&&◌, List, [], Some, None, ⊤, ⊥, MatchBool, IsSomeAnd, IsTrue}
+use Rattle.std.specs.Prelude.{◌≡◌, ◌≤◌, ℕ, Bool, true, false, ◌&&◌, List, [], Some, None, ⊤, MatchBool, IsSomeAnd, IsTrue}
 use Rattle.std.specs.declared.option.Option.{Option}
 use Rattle.std.specs.Option.{option_map, option_map_or}
 use Rattle.loc_outside.specs.Causes.{Rose}
