@@ -93,7 +93,10 @@ fn another_configuration_reuses_nothing(rt: HostRuntime) -> Result<(), AllocErro
         counts(4, 3)
     );
     assert_eq!(rt; (stored(&world).len(), world.tree.openings()), (171, 4));
-    assert_eq!(rt; stored(&world).get(8..12).unwrap_or(b""), b"\0\0\0\x3B".as_slice());
+    assert_eq!(rt;
+        stored(&world).get(8..12).unwrap_or(b""),
+        b"\0\0\0\x3B".as_slice()
+    );
     let mut world = unchanged(rt.alloc())?;
     let mut asked = plain();
     asked.margin = Some(10);
@@ -240,6 +243,9 @@ fn the_version_changes_from_run_to_run(rt: HostRuntime) -> Result<(), AllocError
     }
     let other = on_device(rt.alloc(), b"8:2", true, stored(&first))?;
     assert_eq!(rt; other.tree.openings(), 1);
-    assert_eq!(rt; stored(&other).get(84..88).unwrap_or(b""), b"\0\x80\0\x02".as_slice());
+    assert_eq!(rt;
+        stored(&other).get(84..88).unwrap_or(b""),
+        b"\0\x80\0\x02".as_slice()
+    );
     Ok(())
 }

@@ -107,7 +107,7 @@ returns-clause-does g c =
     let header_known : HeaderReadKnown plan.root plan.block (g.R.Source.left c.open_old.new.reader) c.open_on-old.result.cursor
     = subst (λ (b : List ℕ). HeaderReadKnown plan.root b (g.R.Source.left c.open_old.new.reader) c.open_on-old.result.cursor) block header.header in
     let header_most_read : (files : Files) → g.R.Reader.files c.args.reader.now ≡ Some files → (Rose (g.R.Source.faults c.args.reader.now) (g.R.Source.faults c.reader-1.given.0) → ⊥) → g.R.Source.given c.store-2.new.voucher.src.now ≡ g.R.Source.given c.open_on-old.result.src.now
-        → g.R.Source.given c.reader-1.given.0 ≤ g.R.Source.given c.args.reader.now + both_read files + header_most (old_in files (seen c.args.asked.now))
+    → g.R.Source.given c.reader-1.given.0 ≤ g.R.Source.given c.args.reader.now + both_read files + header_most (old_in files (seen c.args.asked.now))
     = λ files fs none same. header_given _ _ _ plan.root plan.block c.open_on-old.result.cursor _ _ _ _ _ _ _ _ _ (found_at files fs).0 (found_at files fs).1 header.drawn header.near header_known header.broke (at_most_trans _ _ _ read.later looked.later) later none (looked.given ∙ read.given_whole files fs) (read_on ∙ same) in
     went _ _ _ _ _ plan _ _ _ (record {
       accepted = read.accepted;
