@@ -1,16 +1,21 @@
 -- What the opening of the old database has told.
-use Rattle.std.specs.Prelude.{is_some, ◌&&◌, MatchBool}
-use Rattle.std.proofs.Common.{Bool, true, false, ◌≡◌, ℕ, ◌≤◌, ◌+◌, List, [], refl, ap, subst, ◌∙◌, ◌⊎◌, inl, inr, Option, Some, None, IsTrue, IsSome, arith}
+use Rattle.std.specs.Prelude.{is_some, not, ◌&&◌, IsSomeAnd, MatchBool}
+use Rattle.std.specs.Option.{option_map_or}
+use Rattle.std.proofs.Common.{Bool, true, false, ◌≡◌, ℕ, ◌≤◌, ◌+◌, ◌-◌, List, [], length, refl, sym, ap, subst, ◌∙◌, ◌⊎◌, inl, inr, Option, Some, None, IsTrue, IsSome, arith}
 use Rattle.std.proofs.lemmas.Bool.{and_from}
 use Rattle.loc_outside.specs.Causes.{Rose, raised}
-use Rattle.byte_feed.specs.Feed.{LeftAfter}
+use Rattle.byte_feed.specs.Feed.{Draws, LeftAfter, empty_at, reach}
+use Rattle.mlocate_db.specs.Items.{Header, HeaderItem}
+use Rattle.mlocate_db.specs.Reader.{ReaderState, is_live}
 use Rattle.tree_scan.specs.Plan.{Plan}
 use Rattle.tree_scan.specs.Records.{Record, answers_all}
 use Rattle.dir_reuse.specs.declared.cursor.Cursor.{Cursor}
 use Rattle.dir_reuse.specs.Faults.{rose_first, rose_last}
-use Rattle.dir_reuse.specs.Stream.{OpensKnown, is_known_ordered, known}
-use Rattle.dir_reuse.specs.Usable.{is_ordered, records}
-use Rattle.database_update.specs.OldDatabase.{is_reused_whole, old_records, old_size}
+use Rattle.dir_reuse.specs.Answering.{is_open}
+use Rattle.dir_reuse.specs.Coming.{size}
+use Rattle.dir_reuse.specs.Stream.{HeaderRead, HeaderReadKnown, OpensKnown, is_known_ordered, known}
+use Rattle.dir_reuse.specs.Usable.{has_setup, header_of, is_ordered, records}
+use Rattle.database_update.specs.OldDatabase.{header_most, is_foreign, is_reused_whole, old_records, old_size}
 use Rattle.database_update.proofs.Reusing.{Reuses, all_ordered, all_unfailed}
 
 -- ---- it was not found
@@ -72,3 +77,58 @@ pub given_most : (g0 g1 g3 both n : ℕ) (file old l : Option (List ℕ)) → Is
 given_most g0 g1 g3 both n file old l some is rest first then =
     let few : n ≤ old_size old = subst (λ (x : Option (List ℕ)). n ≤ old_size x) is (within_left n file l some rest) in
     omega (arith, first, then, few)
+
+-- ---- how much was read for the header
+
+header_left : (n place : ℕ) (file : List ℕ) (h : Option Header) → n ≤ place + 4096 → IsSomeAnd h (λ header. place ≡ size (HeaderItem header)) → n ≤ option_map_or (λ header. size (HeaderItem header) + 4096) h (length file)
+header_left n place file None near stands = absurd stands
+header_left n place file (Some header) near stands = omega (arith, near, stands)
+
+lacking_left : (n : ℕ) (file : List ℕ) (h : Option Header) → n ≤ length file → h ≡ None → n ≤ option_map_or (λ header. size (HeaderItem header) + 4096) h (length file)
+lacking_left n file None few none = few
+lacking_left n file (Some header) few none = absurd cc
+
+header_within : (n : ℕ) (file : List ℕ) (root block : List ℕ) (c : Cursor) (live : Bool) → is_live c.reader.stage ≡ live → (is_live c.reader.stage ≡ true → n ≤ c.reader.place + 4096) → n ≤ length file → IsTrue c.unbroken → HeaderRead root block file c
+    → n ≤ header_most (Some file)
+header_within n file root block c true is near few whole h = header_left n c.reader.place file (header_of file) (near is) (h.stands is)
+header_within n file root block c false is near few whole h = lacking_left n file (header_of file) few (h.lacks is whole)
+
+-- what was drawn of a file whose header was read, and nothing behind it
+drawn_most : (file l : Option (List ℕ)) (root block : List ℕ) (c : Cursor) (g g' : ℕ) → IsSome file → Draws (empty_at 0) c.reader.feed g g' file l → (is_live c.reader.stage ≡ true → reach c.reader.feed ≤ c.reader.place + 4096) → IsTrue c.unbroken
+    → HeaderReadKnown root block file c → reach c.reader.feed - 0 ≤ header_most file
+drawn_most None l root block c g g' some drawn near whole h = absurd cc
+drawn_most (Some file) l root block c g g' some drawn near whole h =
+    header_within (reach c.reader.feed - 0) file root block c (is_live c.reader.stage) refl (λ live. let most : reach c.reader.feed ≤ c.reader.place + 4096 = near live in omega (arith, most))
+    (within_left (reach c.reader.feed - 0) (Some file) l some drawn.rest) whole h
+
+whole_by : (u : Bool) (c : Cursor) (f0 f1 f2 f3 : ℕ) → c.unbroken ≡ u → (c.unbroken ≡ false → Rose f1 f2) → f0 ≤ f1 → f2 ≤ f3 → (Rose f0 f3 → ⊥) → IsTrue c.unbroken
+whole_by true c f0 f1 f2 f3 is broke ab cd none = is
+whole_by false c f0 f1 f2 f3 is broke ab cd none = absurd (none (rose_last f0 f1 f3 ab (rose_first f1 f2 f3 (broke is) cd)))
+
+pub header_given : (file old l : Option (List ℕ)) (root block : List ℕ) (c : Cursor) (f0 f1 f2 f3 g0 g1 g2 g3 both : ℕ) → IsSome file → file ≡ old → Draws (empty_at 0) c.reader.feed g1 g2 file l
+    → (is_live c.reader.stage ≡ true → reach c.reader.feed ≤ c.reader.place + 4096) → HeaderReadKnown root block file c → (c.unbroken ≡ false → Rose f1 f2) → f0 ≤ f1 → f2 ≤ f3 → (Rose f0 f3 → ⊥) → g1 ≡ raised g0 both → g3 ≡ g2
+    → g3 ≤ g0 + both + header_most old
+header_given file old l root block c f0 f1 f2 f3 g0 g1 g2 g3 both some is drawn near h broke ab cd none first same =
+    let few : reach c.reader.feed - 0 ≤ header_most file = drawn_most file l root block c g1 g2 some drawn near (whole_by c.unbroken c f0 f1 f2 f3 refl broke ab cd none) h in
+    let most : reach c.reader.feed - 0 ≤ header_most old = subst (λ (x : Option (List ℕ)). reach c.reader.feed - 0 ≤ header_most x) is few in
+    omega (arith, most, first, same, drawn.count)
+
+-- where the header has another root or configuration block, nothing can come
+shut_by : (file : List ℕ) (plan : Plan) (c : Cursor) (t : Bool) → has_setup plan.root plan.block file ≡ t → IsTrue (not t) → is_open c ≡ (c.unbroken && t) → is_open c ≡ false
+shut_by file plan c true is foreign opens = absurd cc
+shut_by file plan c false is foreign opens = opens ∙ none c.unbroken
+  where
+    none : (u : Bool) → (u && false) ≡ false
+    none true = refl
+    none false = refl
+
+pub foreign_shut : (file old : Option (List ℕ)) (plan : Plan) (c : Cursor) → IsSome file → file ≡ old → HeaderReadKnown plan.root plan.block file c → IsTrue (is_foreign old plan) → is_open c ≡ false
+foreign_shut None old plan c some is h foreign = absurd cc
+foreign_shut (Some file) old plan c some is h foreign =
+    shut_by file plan c (has_setup plan.root plan.block file) refl (subst (λ (x : Option (List ℕ)). IsTrue (is_foreign x plan)) (sym is) foreign) h.opens
+
+-- the same reader has drawn nothing more
+pub drawn_none : (r r' : ReaderState) (g g' : ℕ) (l l' : Option (List ℕ)) → Draws r.feed r'.feed g g' l l' → r' ≡ r → g' ≡ g
+drawn_none r r' g g' l l' drawn same =
+    let at : reach r'.feed ≡ reach r.feed = ap (λ (x : ReaderState). reach x.feed) same in
+    omega (arith, drawn.count, at)

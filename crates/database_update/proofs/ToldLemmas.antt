@@ -9,7 +9,7 @@ use Rattle.tree_scan.specs.Records.{Honest}
 use Rattle.database_update.specs.OldDatabase.{WhereHonest, old_in, old_records}
 use Rattle.database_update.specs.Settings.{WherePlanned, plan_in}
 
-plan_is : (a b : Plan) (r : Result Plan UpdateFault) → r ≡ Ok a → r ≡ Ok b → a ≡ b
+pub plan_is : (a b : Plan) (r : Result Plan UpdateFault) → r ≡ Ok a → r ≡ Ok b → a ≡ b
 plan_is a b r p q = cc
 
 pub told_by : (files : Option Files) (dirs : Option Dirs) (asked : UpdatedbAsked) (made : Plan) (holds : Dirs → Plan → Type 0)

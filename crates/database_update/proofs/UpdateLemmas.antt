@@ -26,7 +26,7 @@ use Rattle.database_update.specs.declared.fault.UpdateFault.{UpdateFault}
 use Rattle.database_update.specs.declared.fault.UpdateFault.TheVariants.{BadConf, BadMount, ReadFault, RootMissing, TreeFault, WriteFault, TooManyNames, TooManyDirectories, OutOfMemory}
 use Rattle.database_update.specs.Faults.{fault_of, hides_memory, is_early, is_from_outside, is_of_scan, is_of_settings, is_refusal}
 use Rattle.database_update.specs.Holding.{Begins, LeavesHeld, stored_in, with_file, with_pending}
-use Rattle.database_update.specs.OldDatabase.{old_in, old_records, old_size}
+use Rattle.database_update.specs.OldDatabase.{header_most, is_foreign, old_in, old_records, old_size}
 use Rattle.database_update.specs.Scans.{Left, ScanExceeded, ScanFound}
 use Rattle.database_update.specs.Settings.{conf_in, plan_in}
 use Rattle.database_update.specs.SettingsFiles.{both_read, name_of, read_most}
@@ -36,7 +36,7 @@ use Rattle.database_update.proofs.FileLemmas.{plan_bad_conf}
 use Rattle.database_update.proofs.Reusing.{Reuses, asked_too, completed_too, exceeded_too, honest_too, left_too}
 use Rattle.database_update.proofs.ScanLemmas.{err_is}
 use Rattle.database_update.proofs.Shown.{narrow_stops}
-use Rattle.database_update.proofs.ToldLemmas.{on_ok, reused_by, told_by}
+use Rattle.database_update.proofs.ToldLemmas.{on_ok, plan_is, reused_by, told_by}
 
 -- ---- by what was answered
 
@@ -222,6 +222,7 @@ ended_early asked now a fs given failed same f e kept = record {
     empty = λ was. no_root f e.settings was;
     settings_alone = λ early. e.given_few;
     settings_read = λ early. e.given_most;
+    header_alone = λ was. no_root f e.settings was;
   };
   caused = record {
     refused = e.refused;
@@ -244,6 +245,7 @@ ended_early asked now a fs given failed same f e kept = record {
     quiet = λ quiet. kept.2;
     passed_on = λ none held. held;
     given_most = λ files told. more_given a.given given (both_read files) _ (e.given_most files told);
+    foreign_read = λ files plan told made foreign none. more_given a.given given (both_read files) _ (e.given_most files told);
     conf_alone = e.conf_alone;
     refused_read = λ files fault told refused. e.given_most files told;
     asked_of = λ files dirs plan told ds made honest. record { opened = omega arith; unvouched_alone = λ all. omega arith; stats = omega arith };
@@ -332,6 +334,8 @@ pub record Went (asked : UpdatedbAsked) (now : Moment) (a a' : Around) (same : S
   pub reuses : (files : Files) → a.files ≡ Some files → Reuses told all (old_records (old_in files asked) plan) (all_of (old_in files asked) plan a a')
   pub read_least : (files : Files) → a.files ≡ Some files → raised a.given (both_read files) ≤ a'.given
   pub given_most : (files : Files) → a.files ≡ Some files → a'.given ≤ a.given + both_read files + old_size (old_in files asked)
+  pub header_alone : IsErrOf r RootMissing → (Rose a.reads_failed a'.reads_failed → ⊥) → (files : Files) → a.files ≡ Some files → a'.given ≤ a.given + both_read files + header_most (old_in files asked)
+  pub foreign_read : (files : Files) → a.files ≡ Some files → IsTrue (is_foreign (old_in files asked) plan) → (Rose a.reads_failed a'.reads_failed → ⊥) → a'.given ≤ a.given + both_read files + header_most (old_in files asked)
   pub reads_later : a.reads_failed ≤ a'.reads_failed
   pub stored : OnOk r (WhereKnown a.dirs told plan (λ dirs records. a'.held ≡ option_map (with_file asked.output (scan_text dirs plan now)) a.held))
   pub completed : IfOk r (λ counts. WhereKnown a.dirs told plan (λ dirs records. Completed usual records all dirs plan counts a.taken a'.taken a.openings a'.openings))
@@ -397,6 +401,7 @@ module _ (asked : UpdatedbAsked) (now : Moment) (a a' : Around) (same : Same) (p
     empty = λ was. w.empty (is ∙ ap Err was);
     settings_alone = λ early. not_early f (scan_of f is) early;
     settings_read = λ early. not_early f (scan_of f is) early;
+    header_alone = λ was. w.header_alone (is ∙ ap Err was);
   }
 
   went_caused : (f : UpdateFault) → r ≡ Err f → Caused asked a a' f
@@ -449,6 +454,7 @@ module _ (asked : UpdatedbAsked) (now : Moment) (a a' : Around) (same : Same) (p
     quiet = λ quiet. w.quiet (w.verbose ∙ quiet);
     passed_on = passed_by r plan.verbose _ _ _ (on_ok r _ _ (λ e. e.1) w.ended) w.held_back (λ quiet. w.same_held (w.quiet quiet));
     given_most = w.given_most;
+    foreign_read = λ files p fs made foreign none. w.foreign_read files fs (subst (λ (x : Plan). IsTrue (is_foreign (old_in files asked) x)) (plan_is p plan _ made (w.accepted files fs)) foreign) none;
     conf_alone = λ files fault fs refused. not_both _ plan fault (w.accepted files fs) (plan_bad_conf files asked fault refused);
     refused_read = λ files fault fs refused. not_both _ plan fault (w.accepted files fs) refused;
     asked_of = reused_by a.files a.dirs asked plan (λ dirs p old. AskedOf (old_records old p) (all_of old p a a') dirs p a.priced a.openings a'.openings a.stats a'.stats) w.accepted (λ files dirs fs ds honest.

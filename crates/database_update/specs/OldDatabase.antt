@@ -1,13 +1,16 @@
 -- The old database: the file that has the output's name before an update, and what can be relied on in it.
 use Rattle.std.specs.Prelude.{◌≡◌, ℕ, ◌+◌, Bool, true, not, ◌&&◌, List, [], length, min, nat_le, Option, Some, None, Ok}
 use Rattle.std.specs.FinMap.{get}
+use Rattle.std.specs.Option.{option_map_or}
 use Rattle.loc_outside.specs.Causes.{last_count}
 use Rattle.loc_outside.specs.Files.{Files}
 use Rattle.loc_outside.specs.Trees.{Dirs}
+use Rattle.mlocate_db.specs.Items.{HeaderItem}
 use Rattle.tool_words.specs.Updatedb.{UpdatedbAsked}
 use Rattle.tree_scan.specs.Plan.{Plan}
 use Rattle.tree_scan.specs.Records.{Honest, Record}
-use Rattle.dir_reuse.specs.Usable.{is_ordered, records}
+use Rattle.dir_reuse.specs.Coming.{size}
+use Rattle.dir_reuse.specs.Usable.{has_setup, header_of, is_ordered, records}
 use Rattle.database_update.specs.Settings.{plan_in}
 
 -- the file under the name of the output, if there is one
@@ -18,6 +21,16 @@ old_in files asked = get files asked.output
 abbrev pub old_size : Option (List ℕ) → ℕ
 old_size None = 0
 old_size (Some file) = length file
+
+-- how many bytes of it may be read for its header: 4,096 past its end, or all where it does not begin with a whole one
+abbrev pub header_most : Option (List ℕ) → ℕ
+header_most None = 0
+header_most (Some file) = option_map_or (λ header. size (HeaderItem header) + 4096) (header_of file) (length file)
+
+-- whether its header has another root or configuration block than a plan, or it has no whole header
+abbrev pub is_foreign : Option (List ℕ) → Plan → Bool
+is_foreign None plan = true
+is_foreign (Some file) plan = not (has_setup plan.root plan.block file)
 
 -- its records for a plan: without a file there are none
 abbrev pub old_records : Option (List ℕ) → Plan → List Record

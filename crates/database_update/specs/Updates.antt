@@ -1,5 +1,5 @@
 -- What an update does.
-use Rattle.std.specs.Prelude.{◌≡◌, ℕ, ◌+◌, ◌≤◌, ◌⊎◌, Bool, false, List, [], length, Option, Some, None, Result, option_map, IfErr, IsErrAnd, IsOkUnless, IsOk, IsSome, IsTrue, IsErrOf, IfOk, Err}
+use Rattle.std.specs.Prelude.{◌≡◌, ℕ, ◌+◌, ◌≤◌, ◌⊎◌, Bool, false, List, [], length, Option, Some, None, Result, option_map, IfErr, IsErrAnd, IsOkUnless, IsOk, IsSome, IsTrue, IsErrOf, IfOk, Ok, Err}
 use Rattle.std.specs.FinMap.{get}
 use Rattle.path_order.specs.Stamp.{Moment}
 use Rattle.loc_outside.specs.Causes.{Rose, raised}
@@ -20,7 +20,7 @@ use Rattle.database_update.specs.declared.fault.UpdateFault.TheVariants.{OutOfMe
 use Rattle.database_update.specs.Faults.{hides_memory, is_early, is_from_outside, is_refusal}
 use Rattle.database_update.specs.Holding.{Begins, stored_in, with_file, with_pending}
 use Rattle.tree_scan.specs.Scans.{AskedOf, Completed, Failures, usual}
-use Rattle.database_update.specs.OldDatabase.{WhereHonest, is_reused_whole, old_in, old_records, old_size}
+use Rattle.database_update.specs.OldDatabase.{WhereHonest, header_most, is_foreign, is_reused_whole, old_in, old_records, old_size}
 use Rattle.database_update.specs.Scans.{Left, ScanExceeded, ScanFound}
 use Rattle.database_update.specs.Settings.{WherePlanned, conf_in, plan_in}
 use Rattle.database_update.specs.SettingsFiles.{both_read, name_of, read_most}
@@ -81,7 +81,8 @@ pub record Stored (asked : UpdatedbAsked) (now : Moment) (counts : Counts) (a a'
   pub read_least : (files : Files) → a.files ≡ Some files → raised a.given (both_read files) ≤ a'.given
 
 -- After a fault: the stored files are as they were, and a first part of the scan is pending, as far as it came; no other
--- name was begun; nothing was done before the settings were accepted, and of the old database nothing was read.
+-- name was begun; nothing was done before the settings were accepted, and of the old database nothing was read. Where the
+-- root is missing, of the old database the header alone was read, unless a read failed.
 pub record AfterFault (asked : UpdatedbAsked) (now : Moment) (a a' : Around) (same : Same) (fault : UpdateFault) : Type 0 where
   pub unstored : stored_in a'.held ≡ stored_in a.held
   pub left : Reused asked a (λ dirs plan old. Left fault (old_records old plan) (all_of old plan a a') asked.output now dirs plan a.held a'.held a.taken a'.taken same.out)
@@ -91,6 +92,7 @@ pub record AfterFault (asked : UpdatedbAsked) (now : Moment) (a a' : Around) (sa
   pub empty : fault ≡ RootMissing → (a'.held ≡ option_map (with_pending asked.output []) a.held) × same.out
   pub settings_alone : IsTrue (is_early fault) → a'.given ≤ a.given + 17825794
   pub settings_read : IsTrue (is_early fault) → (files : Files) → a.files ≡ Some files → a'.given ≤ a.given + both_read files
+  pub header_alone : fault ≡ RootMissing → (Rose a.reads_failed a'.reads_failed → ⊥) → (files : Files) → a.files ≡ Some files → a'.given ≤ a.given + both_read files + header_most (old_in files asked)
 
 -- When each fault comes; of failed calls on the tree and of failed writes see `Failures`. Lack of memory is never reported as
 -- a refusal of the settings, and a failed read of the old database is no fault.
@@ -119,12 +121,14 @@ pub record Required (asked : UpdatedbAsked) (a a' : Around) (result : Result Cou
 
 -- What holds on every answer: what is as it was where the settings are refused or nothing is to be echoed, that what was
 -- echoed has gone out unless that failed, and how much was asked of the reader and of the tree. The old database is read
--- once at most.
+-- once at most, and no further than its header where that has another root or configuration block, unless a read failed.
 pub record Bounded (asked : UpdatedbAsked) (a a' : Around) (same : Same) : Type 0 where
   pub unready : (files : Files) (fault : UpdateFault) → a.files ≡ Some files → plan_in files asked ≡ Err fault → Untouched same
   pub quiet : asked.verbose ≡ false → same.out
   pub passed_on : (Rose a.writes_failed a'.writes_failed → ⊥) → a.held_back ≡ 0 → a'.held_back ≡ 0
   pub given_most : (files : Files) → a.files ≡ Some files → a'.given ≤ a.given + both_read files + old_size (old_in files asked)
+  pub foreign_read : (files : Files) (plan : Plan) → a.files ≡ Some files → plan_in files asked ≡ Ok plan → IsTrue (is_foreign (old_in files asked) plan) → (Rose a.reads_failed a'.reads_failed → ⊥)
+      → a'.given ≤ a.given + both_read files + header_most (old_in files asked)
   pub conf_alone : (files : Files) (fault : UpdateFault) → a.files ≡ Some files → conf_in files asked ≡ Err fault → a'.given ≤ a.given + read_most Configuration (get files (name_of Configuration))
   pub refused_read : (files : Files) (fault : UpdateFault) → a.files ≡ Some files → plan_in files asked ≡ Err fault → a'.given ≤ a.given + both_read files
   pub asked_of : Reused asked a (λ dirs plan old. AskedOf (old_records old plan) (all_of old plan a a') dirs plan a.priced a.openings a'.openings a.stats a'.stats)

@@ -6,6 +6,7 @@ use crate::tests::{
 use loc_outside::MemTree;
 use path_order::Kind;
 use std::alloc::{AllocError, Global};
+use tool_words::UpdatedbSettings;
 
 /// The database of `/`, `/a`, `/a/z` and `/a.b`, which changed at 1,000 s.
 const FOUR: &[u8] =
@@ -92,6 +93,10 @@ fn another_configuration_reuses_nothing(rt: HostRuntime) -> Result<(), AllocErro
         counts(4, 3)
     );
     assert_eq!(rt; (stored(&world).len(), world.tree.openings()), (171, 4));
+    assert_eq!(rt;
+        stored(&world).get(8..12).unwrap_or(b""),
+        b"\0\0\0\x3B".as_slice()
+    );
     let mut world = unchanged(rt.alloc())?;
     let mut asked = plain();
     asked.margin = Some(10);
@@ -125,31 +130,6 @@ fn records_out_of_order_change_no_byte(rt: HostRuntime) -> Result<(), AllocError
 }
 
 #[test]
-fn another_device_is_not_reused(rt: HostRuntime) -> Result<(), AllocError> {
-    let mounts = b"20 1 8:1 / / rw - ext4 /dev/sda1 rw".as_slice();
-    let mut asked = plain();
-    asked.version = 1;
-    let mut first = empty_root(rt.alloc())?;
-    first.files.put("/proc/self/mountinfo", mounts)?;
-    assert_eq!(rt; run_at(rt.alloc(), &asked, 2_000, &mut first), counts(1, 0));
-    for (mounts, openings) in [
-        (mounts, 0),
-        (b"20 1 8:2 / / rw - ext4 /dev/sda1 rw".as_slice(), 1),
-    ] {
-        let mut second = empty_root(rt.alloc())?;
-        second.files.put("/proc/self/mountinfo", mounts)?;
-        second.files.put("/db", stored(&first))?;
-        assert_eq!(rt;
-            run_at(rt.alloc(), &asked, 3_000, &mut second),
-            counts(1, 0)
-        );
-        assert_eq!(rt; second.tree.openings(), openings);
-        assert_eq!(rt; stored(&second) == stored(&first), openings == 0);
-    }
-    Ok(())
-}
-
-#[test]
 fn a_failed_read_of_the_old_database_is_no_fault(rt: HostRuntime) -> Result<(), AllocError> {
     for n in 3..8u64 {
         let mut world = unchanged(rt.alloc())?;
@@ -165,19 +145,107 @@ fn a_failed_read_of_the_old_database_is_no_fault(rt: HostRuntime) -> Result<(), 
     Ok(())
 }
 
+/// A database of `/`, which has one directory, whose name has 4,093 bytes. Its header ends at 72, and it has 8,301 bytes.
+fn long(alloc: Global) -> Result<Vec<u8>, AllocError> {
+    let name = vec![in alloc; b'd'; 4_093]?;
+    let mut old = Vec::new(alloc);
+    old.extend_from_slice(FOUR.get(..90).unwrap_or(b""))?;
+    old.push(1)?;
+    old.extend_from_slice(&name)?;
+    old.extend_from_slice(b"\0\x02")?;
+    old.extend_from_slice(FOUR.get(72..89).unwrap_or(b""))?;
+    old.extend_from_slice(&name)?;
+    old.extend_from_slice(b"\0\0e\0\x02")?;
+    Ok(old)
+}
+
 #[test]
 fn without_a_root_the_header_alone_is_read(rt: HostRuntime) -> Result<(), AllocError> {
-    let mut long = vec![in rt.alloc(); 0; 8_000]?;
-    let mut old = vec![in rt.alloc(); 0; 0]?;
-    old.extend_from_slice(FOUR)?;
-    old.append(&mut long)?;
     let mut world = unchanged(rt.alloc())?;
-    world.files.put("/db", &old)?;
+    world.files.put("/db", &long(rt.alloc())?)?;
     world.tree = MemTree::new(rt.alloc());
     assert_eq!(rt;
         run_at(rt.alloc(), &plain(), 3_000, &mut world),
         Err(UpdateFault::RootMissing)
     );
     assert!(rt; world.files.given() <= 72 + 4_096);
+    Ok(())
+}
+
+/// Runs over the tree of three levels, where that is the old database.
+fn over_long(alloc: Global, asked: &UpdatedbSettings<'_>) -> Result<World, AllocError> {
+    let mut world = unchanged(alloc)?;
+    world.files.put("/db", &long(alloc)?)?;
+    let _ = run_at(alloc, asked, 3_000, &mut world);
+    Ok(world)
+}
+
+#[test]
+fn behind_a_foreign_header_nothing_is_read(rt: HostRuntime) -> Result<(), AllocError> {
+    let mut asked = plain();
+    asked.margin = Some(10);
+    let world = over_long(rt.alloc(), &asked)?;
+    assert!(rt; world.tree.openings() == 4 && world.files.given() <= 72 + 4_096);
+    let mut asked = plain();
+    asked.root = "/a";
+    let world = over_long(rt.alloc(), &asked)?;
+    assert!(rt; world.tree.openings() == 2 && world.files.given() <= 72 + 4_096);
+    let world = over_long(rt.alloc(), &plain())?;
+    assert!(rt; world.files.given() > 72 + 4_096);
+    Ok(())
+}
+
+#[test]
+fn a_later_nanosecond_is_listed(rt: HostRuntime) -> Result<(), AllocError> {
+    let mut world = unchanged(rt.alloc())?;
+    let mut old = Vec::new(rt.alloc());
+    old.extend_from_slice(FOUR.get(..110).unwrap_or(b""))?;
+    old.push(1)?;
+    old.extend_from_slice(FOUR.get(111..).unwrap_or(b""))?;
+    world.files.put("/db", &old)?;
+    assert_eq!(rt;
+        run_at(rt.alloc(), &plain(), 3_000, &mut world),
+        counts(4, 3)
+    );
+    assert_eq!(rt; stored(&world), FOUR);
+    assert_eq!(rt; world.tree.openings(), 1);
+    Ok(())
+}
+
+/// Runs over an empty root with this old database, the root on this device, which is written where it is to be told.
+fn on_device(alloc: Global, device: &[u8], told: bool, old: &[u8]) -> Result<World, AllocError> {
+    let mut asked = plain();
+    if told {
+        asked.version = 1;
+    }
+    let mut world = empty_root(alloc)?;
+    let mut mounts = Vec::new(alloc);
+    mounts.extend_from_slice(b"20 1 ")?;
+    mounts.extend_from_slice(device)?;
+    mounts.extend_from_slice(b" / / rw - ext4 /dev/sda1 rw")?;
+    world.files.put("/proc/self/mountinfo", &mounts)?;
+    world.files.put("/db", old)?;
+    let _ = run_at(alloc, &asked, 3_000, &mut world);
+    Ok(world)
+}
+
+#[test]
+fn the_version_changes_from_run_to_run(rt: HostRuntime) -> Result<(), AllocError> {
+    let plain_world = on_device(rt.alloc(), b"8:1", false, b"")?;
+    let first = on_device(rt.alloc(), b"8:1", true, b"")?;
+    let again = on_device(rt.alloc(), b"8:1", true, stored(&plain_world))?;
+    assert_eq!(rt; again.tree.openings(), 0);
+    assert_eq!(rt; stored(&again), stored(&first));
+    for (device, openings) in [(b"8:1".as_slice(), 0), (b"8:2".as_slice(), 1)] {
+        let back = on_device(rt.alloc(), device, false, stored(&first))?;
+        assert_eq!(rt; back.tree.openings(), openings);
+        assert_eq!(rt; stored(&back), stored(&plain_world));
+    }
+    let other = on_device(rt.alloc(), b"8:2", true, stored(&first))?;
+    assert_eq!(rt; other.tree.openings(), 1);
+    assert_eq!(rt;
+        stored(&other).get(84..88).unwrap_or(b""),
+        b"\0\x80\0\x02".as_slice()
+    );
     Ok(())
 }

@@ -4,7 +4,7 @@ ghost use Rattle.tool_words.specs.UpdatedbSeen.{seen};
 ghost use Rattle.database_update.specs.Updates.{UpdateDoes};
 
 use crate::fault::UpdateFault;
-use crate::old_database::{OldRecords, open_old};
+use crate::old_database::open_old;
 use crate::settings::read_settings;
 use crate::settings_file::SettingsFile;
 use crate::storing::store;
@@ -61,9 +61,7 @@ pub fn update<R: Reader, T: Tree, O: Output, P: BufferedSink>(
             out,
         );
     }
-    let mut old = OldRecords {
-        stream: StreamVoucher::open_on(reader, &rules, block.as_slice()),
-    };
+    let mut old = StreamVoucher::open_on(reader, &rules, block.as_slice());
     store(
         alloc,
         &rules,

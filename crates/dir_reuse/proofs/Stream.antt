@@ -1,6 +1,7 @@
 -- What is known of a voucher that reads forward.
 use Rattle.std.proofs.Common.{◌≡◌, ℕ, ◌+◌, Bool, true, false, not, List, [], ◌∷◌, ◌++◌, length, map, take, Option, Some, None, Ok, Err, IsTrue, IfOk, IfSome, MatchBool, refl, sym, ap, ◌∙◌, subst, inl, inr, arith}
 use Rattle.std.specs.Prelude.{◌&&◌, ◌||◌, nat_le, if◌then◌else◌, Result, IsSomeAnd, ◌↔◌}
+use Rattle.std.specs.Option.{option_map_or}
 use Rattle.std.specs.Str.{bytes_eq}
 use Rattle.std.specs.declared.alloc.AllocError.{AllocError}
 use Rattle.std.proofs.lemmas.Bool.{cases_Bool, and_parts, and_from}
@@ -17,12 +18,12 @@ use Rattle.mlocate_db.specs.Items.{Item, Header, HeaderItem, HeadItem, EntryItem
 use Rattle.mlocate_db.specs.Reader.{ReaderState, fresh_on, is_live, items_left, StartKnown}
 use Rattle.tree_scan.specs.Records.{Record, Vouches, LeavesOf, Leaves, is_vouched}
 use Rattle.dir_reuse.specs.declared.cursor.Cursor.{Cursor}
-use Rattle.dir_reuse.specs.Usable.{records, records_if_same_setup, records_in, usable_record, head_paths, paths_rise, is_empty, is_ordered}
+use Rattle.dir_reuse.specs.Usable.{records, records_if_same_setup, records_in, usable_record, head_paths, paths_rise, is_empty, is_ordered, first_header, header_of, has_setup}
 use Rattle.dir_reuse.specs.Coming.{Placed, placed_in, size, size_behind, Coming, coming_in, records_to_come}
 use Rattle.dir_reuse.specs.Answering.{is_open, ahead, in_order, AnswersTold}
-use Rattle.dir_reuse.specs.Stream.{known_by, known, ordered_by, is_known_ordered, OpensKnown}
+use Rattle.dir_reuse.specs.Stream.{known_by, known, ordered_by, is_known_ordered, OpensKnown, HeaderRead, HeaderReadKnown}
 use Rattle.dir_reuse.proofs.Cursors.{ahead_closed, ahead_apart}
-use Rattle.dir_reuse.proofs.Passing.{live_is}
+use Rattle.dir_reuse.proofs.Passing.{live_is, place_moves}
 
 -- ---- what a question leaves
 
@@ -187,3 +188,56 @@ opens_err root block r' (Some file) (Some y) faults.ReadFault m = known_shut (op
 opens_err root block r' (Some file) (Some y) faults.NotADatabase m = opens_none root block file y r' (sym (front_is file) ∙ ap (λ (x : Rest mlocate). x.items) m)
 opens_err root block r' (Some file) (Some y) faults.TooLarge m = opens_none root block file y r' (sym (front_is file) ∙ ap (λ (x : Rest mlocate). x.items) m)
 opens_err root block r' (Some file) (Some y) (faults.Damage d) m = opens_none root block file y r' (sym (front_is file) ∙ ap (λ (x : Rest mlocate). x.items) m)
+
+-- ---- where the reader stands behind it
+
+and_live : (a b : Bool) → b ≡ true → (a && b) ≡ a
+and_live true b e = e
+and_live false b e = refl
+
+both_stages : {P : Type 0} (b : Bool) → b ≡ true → b ≡ false → P
+both_stages b e h = absurd cc
+
+pub header_ok : (root block : List ℕ) (r' : ReaderState) (l l' : Option (List ℕ)) (same : Bool) → StartKnown (Ok same) (fresh_on (empty_at 0)) l r' l' root block → HeaderReadKnown root block l (opened_by r' same true)
+header_ok root block r' None l' same m = tt
+header_ok root block r' (Some file) None same m = absurd m
+header_ok root block r' (Some file) (Some y) same m =
+    let b = m.begins in
+    let header : Header = b.header in
+    let items : List Item = (items_left r' (window r'.feed y)).items in
+    let all : front mlocate file ≡ HeaderItem header ∷ items = sym (front_is file) ∙ ap (λ (x : Rest mlocate). x.items) b.moved.whole in
+    let whole : header_of file ≡ Some header = ap first_header all in
+    let at : 0 + size (HeaderItem header) ≡ r'.place = place_moves (fresh_on (empty_at 0)) r' (window (empty_at 0) file) (window r'.feed y) (HeaderItem header) b.moved.whole in
+    let end : r'.place ≡ size (HeaderItem header) = omega (arith, at) in
+    let is : same ≡ (bytes_eq header.root root && bytes_eq header.block block) = same_texts header.root root header.block block same m.is_same in
+    let live : is_live r'.stage ≡ true = ap is_live b.between in
+    record {
+      stands = λ _. subst (λ (o : Option Header). IsSomeAnd o (λ h. r'.place ≡ size (HeaderItem h))) (sym whole) end;
+      lacks = λ dead u. both_stages (is_live r'.stage) live dead;
+      opens = and_live same (is_live r'.stage) live ∙ is ∙ sym (ap (λ (o : Option Header). option_map_or (λ h. bytes_eq h.root root && bytes_eq h.block block) o false) whole);
+    }
+
+header_none : (root block file : List ℕ) (r' : ReaderState) → is_live r'.stage ≡ false → front mlocate file ≡ [] → HeaderRead root block file (opened_by r' false true)
+header_none root block file r' dead none =
+    let lacking : header_of file ≡ None = ap first_header none in
+    record {
+      stands = λ live. both_stages (is_live r'.stage) live dead;
+      lacks = λ _ u. lacking;
+      opens = sym (ap (λ (o : Option Header). option_map_or (λ h. bytes_eq h.root root && bytes_eq h.block block) o false) lacking);
+    }
+
+header_failed : (root block file : List ℕ) (r' : ReaderState) → is_live r'.stage ≡ false → HeaderRead root block file (opened_by r' false false)
+header_failed root block file r' dead = record {
+  stands = λ live. both_stages (is_live r'.stage) live dead;
+  lacks = λ _ u. absurd cc;
+  opens = refl;
+}
+
+pub header_err : (root block : List ℕ) (r' : ReaderState) (l l' : Option (List ℕ)) (fault : DbFault) → is_live r'.stage ≡ false → StartKnown (Err fault) (fresh_on (empty_at 0)) l r' l' root block
+    → HeaderReadKnown root block l (opened_by r' false (not (is_read_fault (Err fault))))
+header_err root block r' None l' fault dead m = tt
+header_err root block r' (Some file) None fault dead m = absurd m
+header_err root block r' (Some file) (Some y) faults.ReadFault dead m = header_failed root block file r' dead
+header_err root block r' (Some file) (Some y) faults.NotADatabase dead m = header_none root block file r' dead (sym (front_is file) ∙ ap (λ (x : Rest mlocate). x.items) m)
+header_err root block r' (Some file) (Some y) faults.TooLarge dead m = header_none root block file r' dead (sym (front_is file) ∙ ap (λ (x : Rest mlocate). x.items) m)
+header_err root block r' (Some file) (Some y) (faults.Damage d) dead m = header_none root block file r' dead (sym (front_is file) ∙ ap (λ (x : Rest mlocate). x.items) m)

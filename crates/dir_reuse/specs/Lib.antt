@@ -7,3 +7,4 @@ pub mod Answering
 pub mod Stream
 pub mod Keeping
 pub mod Faults
+pub mod ReadingOn

@@ -1,5 +1,6 @@
 -- The records of an old database: the usable directories of its front.
-use Rattle.std.specs.Prelude.{ℕ, Bool, true, false, ◌&&◌, ◌||◌, ◌==◌, nat_le, List, [], ◌∷◌, ◌++◌, length, Some, None, if◌then◌else◌}
+use Rattle.std.specs.Prelude.{ℕ, Bool, true, false, ◌&&◌, ◌||◌, ◌==◌, nat_le, List, [], ◌∷◌, ◌++◌, length, Option, Some, None, if◌then◌else◌}
+use Rattle.std.specs.Option.{option_map_or}
 use Rattle.std.specs.Ordering.{nat_cmp, is_lt}
 use Rattle.std.specs.Cmp.Lexicographic.{slice_cmp}
 use Rattle.std.specs.FinMap.{is_sorted}
@@ -9,7 +10,7 @@ use Rattle.path_order.specs.NameList.{Listed}
 use Rattle.path_order.specs.Names.{is_name}
 use Rattle.path_order.specs.Order.{path_cmp}
 use Rattle.byte_feed.specs.Front.{front}
-use Rattle.mlocate_db.specs.Items.{Head, Item, HeaderItem, HeadItem, EntryItem, EndItem, mlocate}
+use Rattle.mlocate_db.specs.Items.{Header, Head, Item, HeaderItem, HeadItem, EntryItem, EndItem, mlocate}
 use Rattle.tree_scan.specs.Records.{Record}
 
 -- the entries that come first
@@ -56,6 +57,21 @@ records_if_same_setup root block items = []
 -- the records of an old file, for this root and configuration block: none where it does not begin with a whole header
 abbrev pub records : List ℕ → List ℕ → List ℕ → List Record
 records root block file = records_if_same_setup root block (front mlocate file)
+
+-- ---- the header
+
+-- the header among these items, if it is the first of them
+abbrev pub first_header : List Item → Option Header
+first_header (HeaderItem header ∷ items) = Some header
+first_header items = None
+
+-- the header of an old file, if it begins with a whole one
+abbrev pub header_of : List ℕ → Option Header
+header_of file = first_header (front mlocate file)
+
+-- whether it has this root and configuration block
+abbrev pub has_setup : List ℕ → List ℕ → List ℕ → Bool
+has_setup root block file = option_map_or (λ header. bytes_eq header.root root && bytes_eq header.block block) (header_of file) false
 
 -- ---- their order
 

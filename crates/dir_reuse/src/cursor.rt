@@ -10,7 +10,7 @@ ghost use Rattle.dir_reuse.specs.Coming.{head_of};
 ghost use Rattle.dir_reuse.specs.Usable.{record_of};
 ghost use Rattle.dir_reuse.specs.Keeping.{GivesKnown, StaysKnown};
 ghost use Rattle.dir_reuse.specs.Seeking.{Further, finds_head};
-ghost use Rattle.dir_reuse.specs.Stream.{OpensKnown};
+ghost use Rattle.dir_reuse.specs.Stream.{HeaderReadKnown, OpensKnown};
 ghost use Rattle.dir_reuse.specs.Answering.{AnswersTold, ReadsNear, CameKnown, CameShows, HasHead, has_failed, is_open, is_sound};
 
 use crate::kept::Kept;
@@ -58,6 +58,7 @@ impl Cursor {
     /// Reads the header. Records can come only where its root and its configuration block are these.
     pub(crate) fn open_on<S: Source>(src: &mut S, root: &[u8], block: &[u8]) -> Cursor
         ensures opened { OpensKnown root.now block.now (S.left src.old) result (S.left src.new) }
+        ensures header { HeaderReadKnown root.now block.now (S.left src.old) result }
         ensures apart { result.at_head ≡ false }
         ensures sound { IsTrue (is_sound result) }
         ensures broke { result.unbroken ≡ false → Rose (S.faults src.old) (S.faults src.new) }
@@ -165,8 +166,8 @@ impl Cursor {
         }
     }
 
-    /// Reads past the directory whose head is in hand, and gives its record where it is usable. After want of memory the
-    /// cursor is not used again.
+    /// Reads past the directory whose head is in hand, and gives its record where it is usable. After running out of
+    /// memory the cursor is not used again.
     pub(crate) fn take_record<S: Source>(
         &mut self,
         alloc: Global,

@@ -2,12 +2,12 @@
 ghost use Rattle.std.specs.Prelude.{◌≡◌, ◌≤◌, ◌+◌, IsTrue, true, false, refl};
 ghost use Rattle.std.proofs.Common.{◌∙◌};
 ghost use Rattle.loc_outside.specs.Causes.{Rose};
-ghost use Rattle.dir_reuse.specs.Answering.{ReadsNear, is_open, is_sound};
+ghost use Rattle.dir_reuse.specs.Answering.{ReadsNear, is_sound};
 ghost use Rattle.byte_feed.specs.Feed.{Draws, empty_at, reach};
 ghost use Rattle.mlocate_db.specs.Reader.{is_live};
 ghost use Rattle.tree_scan.specs.Plans.{plan_of};
-ghost use Rattle.dir_reuse.specs.Stream.{OpensKnown, known, is_known_ordered};
-ghost use Rattle.dir_reuse.specs.Faults.{rose_first, rose_last, at_most_trans, at_most_itself};
+ghost use Rattle.dir_reuse.specs.Stream.{HeaderReadKnown, OpensKnown, ReadsOn, known, is_known_ordered};
+ghost use Rattle.dir_reuse.specs.ReadingOn.{reads_none, reads_then};
 
 use crate::cursor::Cursor;
 use loc_outside::Source;
@@ -30,6 +30,7 @@ impl<'a, S: Source> StreamVoucher<'a, S> {
         requires { block.now ≡ (plan_of rules.now).block }
         ensures same { result.src.ghost_name ≡ src.entry.ghost_name }
         ensures opened { OpensKnown (plan_of rules.now).root block.now (S.left src.old) result.cursor (S.left result.src.now) }
+        ensures header { HeaderReadKnown (plan_of rules.now).root block.now (S.left src.old) result.cursor }
         ensures sound { IsTrue (is_sound result.cursor) }
         ensures broke { result.cursor.unbroken ≡ false → Rose (S.faults src.old) (S.faults result.src.now) }
         ensures drawn { Draws (empty_at 0) result.cursor.reader.feed (S.given src.old) (S.given result.src.now) (S.left src.old) (S.left result.src.now) }
@@ -51,9 +52,9 @@ impl<S: Source> Voucher for StreamVoucher<'_, S> {
 
     ghost sound = { λ v. is_sound v.cursor };
 
-    ghost reach = { λ v dir w. Draws v.cursor.reader.feed w.cursor.reader.feed (S.given v.src.now) (S.given w.src.now) (S.left v.src.now) (S.left w.src.now) × ReadsNear dir v.cursor (S.left v.src.now) w.cursor × (is_open v.cursor ≡ false → w.cursor.reader ≡ v.cursor.reader) };
+    ghost reach = { λ v dir w. ReadsNear dir v.cursor (S.left v.src.now) w.cursor };
 
-    ghost kept = { λ v w. (w.src.ghost_name ≡ v.src.ghost_name) × S.kept v.src.now w.src.now × (S.faults v.src.now ≤ S.faults w.src.now) × ((Rose (S.faults v.src.now) (S.faults w.src.now) → ⊥) → w.cursor.unbroken ≡ v.cursor.unbroken) };
+    ghost kept = { λ v w. (w.src.ghost_name ≡ v.src.ghost_name) × S.kept v.src.now w.src.now × ReadsOn v.cursor w.cursor (S.faults v.src.now) (S.faults w.src.now) (S.given v.src.now) (S.given w.src.now) (S.left v.src.now) (S.left w.src.now) };
 
     fn vouch(
         &mut self,
@@ -65,12 +66,11 @@ impl<S: Source> Voucher for StreamVoucher<'_, S> {
         self.cursor.vouch(self.src, dir, stamp, device, into)
     }
 
-    ghost keeps_itself = { λ s. (refl, S.keeps_itself s.src.now, at_most_itself (S.faults s.src.now), λ h. refl) };
+    ghost keeps_itself = { λ s. (refl, S.keeps_itself s.src.now, reads_none s.cursor (S.faults s.src.now) (S.given s.src.now) (S.left s.src.now)) };
 
     ghost keeps_on = { λ s t u first then. (
       then.0 ∙ first.0,
       S.keeps_on s.src.now t.src.now u.src.now first.1 then.1,
-      at_most_trans (S.faults s.src.now) (S.faults t.src.now) (S.faults u.src.now) first.2 then.2,
-      λ still. then.3 (λ r. still (rose_last (S.faults s.src.now) (S.faults t.src.now) (S.faults u.src.now) first.2 r)) ∙ first.3 (λ r. still (rose_first (S.faults s.src.now) (S.faults t.src.now) (S.faults u.src.now) r then.2)),
+      reads_then s.cursor t.cursor u.cursor (S.faults s.src.now) (S.faults t.src.now) (S.faults u.src.now) (S.given s.src.now) (S.given t.src.now) (S.given u.src.now) (S.left s.src.now) (S.left t.src.now) (S.left u.src.now) first.2 then.2,
     ) };
 }

@@ -41,6 +41,7 @@ fault_as asked now a a' s s' tree output out fault after = record {
   empty = λ was. let kept = after.empty was in (kept.0, out kept.1);
   settings_alone = after.settings_alone;
   settings_read = after.settings_read;
+  header_alone = after.header_alone;
 }
 
 bounded_as : (asked : UpdatedbAsked) (a a' : Around) (s s' : Same) → (s.tree → s'.tree) → (s.output → s'.output) → (s.out → s'.out) → Bounded asked a a' s → Bounded asked a a' s'
@@ -49,6 +50,7 @@ bounded_as asked a a' s s' tree output out b = record {
   quiet = λ quiet. out (b.quiet quiet);
   passed_on = b.passed_on;
   given_most = b.given_most;
+  foreign_read = b.foreign_read;
   conf_alone = b.conf_alone;
   refused_read = b.refused_read;
   asked_of = b.asked_of;
