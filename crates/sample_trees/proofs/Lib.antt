@@ -2,3 +2,4 @@ mod Draws
 mod Paths
 mod DirEdits
 pub mod Stamps
+pub mod Sizes

@@ -18,18 +18,18 @@ use Rattle.sample_trees.specs.Rounds.{Edit, edited, after_edits, edit_drawn, sec
 use Rattle.sample_trees.proofs.DirEdits.{dirs_more}
 
 -- both times of a directory are these seconds
-abbrev At : ℕ → Dir → Type 0
+abbrev pub At : ℕ → Dir → Type 0
 At seconds dir = dir.times ≡ times_at seconds
 
 -- a directory that shows its names, with a time of at most these seconds
-record Early (seconds : ℕ) (dir : Dir) : Type 0 where
-  at : ℕ
-  bound : at ≤ seconds
-  times : At at dir
-  shown : dir.hidden ≡ false
+pub record Early (seconds : ℕ) (dir : Dir) : Type 0 where
+  pub at : ℕ
+  pub bound : at ≤ seconds
+  pub times : At at dir
+  pub shown : dir.hidden ≡ false
 
 -- all directories are such
-abbrev Until : ℕ → Dirs → Type 0
+abbrev pub Until : ℕ → Dirs → Type 0
 Until seconds dirs = (path : List ℕ) (dir : Dir) → get dirs path ≡ Some dir → Early seconds dir
 
 -- a directory with a time of at least these seconds
@@ -44,11 +44,11 @@ record Late (seconds : ℕ) (there : Option Dir) : Type 0 where
 abbrev Later : ℕ → Dirs → Dirs → Type 0
 Later seconds before after = (path : List ℕ) → (get after path ≡ get before path) ⊎ Late seconds (get after path)
 
-same_dir : (a b : Dir) → Some a ≡ Some b → a ≡ b
+pub same_dir : (a b : Dir) → Some a ≡ Some b → a ≡ b
 same_dir a b e = ap (λ (o : Option Dir). unwrap_or o a) e
 
 -- what is found after a directory was put
-by_insert : (dirs : Dirs) (key : List ℕ) (new : Dir) (path : List ℕ) → (get (insert dirs key new) path ≡ Some new) ⊎ (get (insert dirs key new) path ≡ get dirs path)
+pub by_insert : (dirs : Dirs) (key : List ℕ) (new : Dir) (path : List ℕ) → (get (insert dirs key new) path ≡ Some new) ⊎ (get (insert dirs key new) path ≡ get dirs path)
 by_insert dirs key new path = by_answer (eq_by_cmp (slice_cmp nat_cmp) path key) (get-insert nat_list_cmp_total dirs key new path)
   where
     by_answer : (t : Bool) → get (insert dirs key new) path ≡ cond t (Some new) (get dirs path) → (get (insert dirs key new) path ≡ Some new) ⊎ (get (insert dirs key new) path ≡ get dirs path)
@@ -63,7 +63,7 @@ until_insert seconds dirs key new before early path dir here =
     ]
 
 -- an edit, by what is there
-by_change : (dirs : Dirs) (path : List ℕ) (f : Dir → Dir) (P : Dirs → Type 0) → P dirs → ((dir : Dir) → get dirs path ≡ Some dir → P (insert dirs path (f dir))) → P (changed_at dirs path f)
+pub by_change : (dirs : Dirs) (path : List ℕ) (f : Dir → Dir) (P : Dirs → Type 0) → P dirs → ((dir : Dir) → get dirs path ≡ Some dir → P (insert dirs path (f dir))) → P (changed_at dirs path f)
 by_change dirs path f P none some = by_answer (get dirs path) refl
   where
     by_answer : (o : Option Dir) → get dirs path ≡ o → P (option_map_or (λ dir. insert dirs path (f dir)) o dirs)
@@ -153,7 +153,7 @@ until_from low high dirs h until path dir here =
     let early = until path dir here in
     record { at = early.at; bound = (let k = early.bound in omega arith); times = early.times; shown = early.shown }
 
-until_after : (seed rounds : ℕ) → Until (seconds_of rounds) (dirs_after seed rounds)
+pub until_after : (seed rounds : ℕ) → Until (seconds_of rounds) (dirs_after seed rounds)
 unfolding dirs_after first_dirs seconds_of
 until_after seed zero = until_from 1000000 (seconds_of zero) (dirs_below seed 2001) (omega arith) (until_below seed 2001)
 until_after seed (suc rounds) =
@@ -187,7 +187,7 @@ later_after seed rounds (suc more) =
     (later_round seed (2001 + 30 * (rounds + more)) (suc (rounds + more)) (dirs_after seed (rounds + more)))))
 
 -- the later of two equal times
-later_same : (m : Moment) → later_of m m ≡ m
+pub later_same : (m : Moment) → later_of m m ≡ m
 later_same m = elim (nat_lt (nanoseconds m) (nanoseconds m)) as (λ b. cond b m m ≡ m) [ true ↦ refl | false ↦ refl ]
 
 last_at : (seconds : ℕ) (dir : Dir) → At seconds dir → (changed_last dir).seconds ≡ seconds

@@ -11,6 +11,6 @@ mod steps;
 #[cfg(test)]
 mod tests;
 
-pub use laws::{no_directory_is_hidden, same_where_times_agree};
+pub use laws::{no_directory_is_hidden, same_where_times_agree, samples_are_small};
 pub use step::SampleStep;
 pub use steps::sample_steps;

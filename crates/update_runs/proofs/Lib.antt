@@ -1,0 +1,7 @@
+mod FirstItems
+mod StaysHonest
+mod SampleKept
+mod Updated
+mod Stands
+mod Samples
+mod Exercises

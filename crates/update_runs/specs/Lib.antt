@@ -1,0 +1,4 @@
+pub mod Exercises
+pub mod Runs
+pub mod Single
+pub mod Faults

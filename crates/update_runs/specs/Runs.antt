@@ -1,0 +1,54 @@
+-- A list of updates, each over the database that the one before has made.
+use Rattle.std.specs.Prelude.{◌≡◌, ◌≤◌, ◌+◌, ◌^◌, ◌⊎◌, ℕ, List, [], ◌∷◌, length, IsTrue, ⊤}
+use Rattle.sample_trees.specs.declared.step.SampleStep.{SampleStep}
+use Rattle.tree_scan.specs.Plan.{Plan}
+use Rattle.tree_scan.specs.Reach.{reached}
+use Rattle.dir_reuse.specs.Usable.{is_ordered}
+use Rattle.update_runs.specs.declared.outcome.ListFault.{ListFault}
+use Rattle.update_runs.specs.declared.outcome.ListFault.TheVariants.{OutOfMemory}
+use Rattle.update_runs.specs.declared.outcome.ListResult.{ListResult}
+use Rattle.update_runs.specs.Single.{IsHonest, Passes, Refuses, opened_in, scan_of}
+
+-- a step whose tree has no call that is set to fail, and was opened at most so often
+pub record IsReady (step : SampleStep) : Type 0 where
+  pub steady : step.tree.failures.due ≡ []
+  pub openings : step.tree.openings ≤ 2 ^ 63
+
+-- In each step a directory that still bears the time of its record in the database before, which is not zero, shows the
+-- names of the record. The database before the first step is given.
+abbrev pub Kept : Plan → List ℕ → List SampleStep → Type 0
+Kept plan old [] = ⊤
+Kept plan old (step ∷ steps) = IsHonest plan old step.tree.dirs × Kept plan (scan_of plan step) steps
+
+-- the database after all steps: the complete scan of the last tree, or the one before if there is no step
+abbrev pub last_database : Plan → List ℕ → List SampleStep → List ℕ
+last_database plan old [] = old
+last_database plan old (step ∷ steps) = last_database plan (scan_of plan step) steps
+
+-- how many directories are reached in the last step, or so many if there is no step
+abbrev pub last_reached : Plan → ℕ → List SampleStep → ℕ
+last_reached plan count [] = count
+last_reached plan count (step ∷ steps) = last_reached plan (length (reached step.tree.dirs plan.pruned plan.root)) steps
+
+-- how many directories are opened in all steps: in each those that no record of the database before vouches for
+abbrev pub opened_in_all : Plan → List ℕ → List SampleStep → ℕ
+opened_in_all plan old [] = 0
+opened_in_all plan old (step ∷ steps) = opened_in plan old step.tree.dirs + opened_in_all plan (scan_of plan step) steps
+
+-- in each step the root is there, and no limit is passed
+abbrev pub AllPass : Plan → List ℕ → List SampleStep → Type 0
+AllPass plan old [] = ⊤
+AllPass plan old (step ∷ steps) = Passes plan old step.tree.dirs × AllPass plan (scan_of plan step) steps
+
+-- One step is refused with this fault, and all before it have passed. After the last step only memory can be missing.
+abbrev pub StopsAt : ListFault → Plan → List ℕ → List SampleStep → Type 0
+StopsAt fault plan old [] = fault ≡ OutOfMemory
+StopsAt fault plan old (step ∷ steps) = Refuses plan old step.tree.dirs fault ⊎ (Passes plan old step.tree.dirs × StopsAt fault plan (scan_of plan step) steps)
+
+-- What a list of updates comes to: the last database and its directories; the openings, where the database before the first
+-- step is in order; and that all steps have passed.
+pub record Comes (plan : Plan) (start : List ℕ) (steps : List SampleStep) (list : ListResult) : Type 0 where
+  pub bytes : list.bytes ≡ last_database plan start steps
+  pub directories : list.directories ≡ last_reached plan 0 steps
+  pub openings : IsTrue (is_ordered plan.root plan.block start) → list.openings ≡ opened_in_all plan start steps
+  pub passed : AllPass plan start steps
