@@ -1,0 +1,21 @@
+use Rattle.std.proofs.Common.{ap, refl, Err}
+use Rattle.locate_tools.proofs.Converting.{does_as, unwritten_after}
+use Rattle.locate_tools.proofs.convert_run.convert.Goals as goal
+
+pub returns-in-Ok-clause-run : goal.returns-in-Ok-clause-run
+returns-in-Ok-clause-run g c = record {
+  result = _;
+  ended = refl;
+  does = does_as _ _ _ _ _ _
+      (λ same. (ap g.O.Output.held same, ap g.O.Output.begins same, ap g.O.Sink.faults same))
+      c.in-Ok.ensures.does;
+}
+
+pub returns-in-Err-clause-run : goal.returns-in-Err-clause-run
+returns-in-Err-clause-run g c = record {
+  result = Err c.in-Err.fault;
+  ended = c.cause_of.ensures;
+  does = does_as _ _ _ _ _ _
+      (λ same. (ap g.O.Output.held same, ap g.O.Output.begins same, ap g.O.Sink.faults same))
+      c.in-Err.ensures.does;
+}
