@@ -4,6 +4,7 @@
 
 mod admission;
 mod bigram;
+mod converting;
 mod fault;
 mod format;
 mod laws;
@@ -14,7 +15,8 @@ mod reading;
 
 pub use admission::{first_refused, is_admitted};
 pub use bigram::{put_bigram, table_for};
-pub use fault::ListFault;
+pub use converting::convert;
+pub use fault::{ConvertFault, ListFault};
 pub use format::{AdmitCause, Format};
 pub use laws::{example_is_written, written_is_read_back};
 pub use list::put_list;
