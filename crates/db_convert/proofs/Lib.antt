@@ -8,3 +8,6 @@ pub mod Directories
 mod ReadBack
 mod Refused
 mod Example
+mod Sorting
+mod Turning
+mod Seeking
