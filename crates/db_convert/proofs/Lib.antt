@@ -11,3 +11,7 @@ mod Example
 mod Sorting
 mod Turning
 mod Seeking
+mod TurnTexts
+mod Inputs
+mod Parents
+mod Converting

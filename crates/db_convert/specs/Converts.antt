@@ -154,7 +154,7 @@ pub record Caused (asked : Asked) (a a' : Around) (fault : ConvertFault) : Type 
 -- accepted and no call failed, unless memory ran out.
 pub record Required (asked : Asked) (a a' : Around) (result : Result ℕ ConvertFault) : Type 0 where
   pub refuses : WhereRefused asked a (λ fault. IsErrAnd result (λ e. (e ≡ fault) ⊎ ((e ≡ OutOfMemory) ⊎ (e ≡ ReadFault))))
-  pub complete : IsAccepted asked a → (Rose a.reads_failed a'.reads_failed → ⊥) → (Rose a.output_failed a'.output_failed → ⊥) → IsOkUnless result OutOfMemory
+  pub complete : WhereTold asked a (λ paths. (Rose a.reads_failed a'.reads_failed → ⊥) → (Rose a.output_failed a'.output_failed → ⊥) → IsOkUnless result OutOfMemory)
 
 -- What holds on every answer: that nothing was done to the output where the input is refused, how much was read, and that no
 -- count of faults fell.

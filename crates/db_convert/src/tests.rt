@@ -139,7 +139,7 @@ fn tells_the_format_of_a_database(rt: HostRuntime) -> Result<(), AllocError> {
         assert_eq!(rt; run(rt.alloc(), Some(Format::List), to, &mut first), Ok(3));
         let mut second = world_of(rt.alloc(), stored(&first))?;
         assert_eq!(rt; run(rt.alloc(), None, Format::List0, &mut second), Ok(3));
-        assert_eq!(rt; stored(&second).len(), 10);
+        assert_eq!(rt; stored(&second).len(), 11);
     }
     Ok(())
 }
