@@ -8,3 +8,10 @@ pub mod Directories
 mod ReadBack
 mod Refused
 mod Example
+mod Sorting
+mod Turning
+mod Seeking
+mod TurnTexts
+mod Inputs
+mod Parents
+mod Converting

@@ -42,31 +42,48 @@ is_refusal (NotAdmitted index cause) = true
 is_refusal WriteFault = false
 is_refusal OutOfMemory = false
 
+-- It may come while the input is read.
+abbrev pub is_of_reading : ConvertFault → Bool
+is_of_reading Missing = true
+is_of_reading NotADatabase = true
+is_of_reading (Damage damage) = true
+is_of_reading ReadFault = true
+is_of_reading TooLarge = true
+is_of_reading (NotAdmitted index cause) = false
+is_of_reading WriteFault = false
+is_of_reading OutOfMemory = true
+
 -- these paths, where the file ends whole
 abbrev pub whole_or_fault : List (List ℕ) → Ending → Result (List (List ℕ)) ConvertFault
 whole_or_fault paths (Ok whole) = Ok paths
 whole_or_fault paths (Err fault) = Err (fault_of_file fault)
 
--- these paths, where none is refused
-abbrev pub admitted_or_fault : List (List ℕ) → Option (ℕ × AdmitCause) → Result (List (List ℕ)) ConvertFault
-admitted_or_fault paths None = Ok paths
-admitted_or_fault paths (Some refused) = Err (NotAdmitted refused.0 refused.1)
-
--- the paths of a file that gives so much, where it ends whole and all are admitted; else why there are none
-abbrev pub paths_given : Format → ToCome → Result (List (List ℕ)) ConvertFault
-paths_given to given = do
-  paths ← whole_or_fault (map (λ (p : PathAt). p.text) given.paths) given.ending
-  admitted_or_fault paths (first_refused to paths)
+-- the paths of a file that gives so much, where it ends whole; else why it does not
+abbrev pub read_whole : ToCome → Result (List (List ℕ)) ConvertFault
+read_whole given = whole_or_fault (map (λ (p : PathAt). p.text) given.paths) given.ending
 
 -- the same of the file that is there under a name, if there is one
-abbrev pub paths_found : Option Format → Format → Option (List ℕ) → Result (List (List ℕ)) ConvertFault
-paths_found from to None = Err Missing
-paths_found from to (Some file) = paths_given to (contents_in from file)
+abbrev pub read_found : Option Format → Option (List ℕ) → Result (List (List ℕ)) ConvertFault
+read_found from None = Err Missing
+read_found from (Some file) = read_whole (contents_in from file)
+
+abbrev pub none_or_fault : List (List ℕ) → Option (ℕ × AdmitCause) → Result (List (List ℕ)) ConvertFault
+none_or_fault paths None = Ok paths
+none_or_fault paths (Some refused) = Err (NotAdmitted refused.0 refused.1)
+
+-- these paths, where the format can hold all; else which it can't hold, and why
+abbrev pub admitted_to : Format → List (List ℕ) → Result (List (List ℕ)) ConvertFault
+admitted_to to paths = none_or_fault paths (first_refused to paths)
+
+-- the same of paths that were read, if they were
+abbrev pub then_admitted : Format → Result (List (List ℕ)) ConvertFault → Result (List (List ℕ)) ConvertFault
+then_admitted to (Ok paths) = admitted_to to paths
+then_admitted to (Err fault) = Err fault
 
 -- What is converted: the paths of the input, read in this format, or in the one that its first bytes tell; or why there is
 -- nothing to convert.
-unfoldable pub paths_in : Files → List ℕ → Option Format → Format → Result (List (List ℕ)) ConvertFault
-paths_in files input from to = paths_found from to (get files input)
+abbrev pub paths_in : Files → List ℕ → Option Format → Format → Result (List (List ℕ)) ConvertFault
+paths_in files input from to = then_admitted to (read_found from (get files input))
 
 -- this text is stored under a name, and no name is begun; the other files are the same
 abbrev pub with_file : List ℕ → List ℕ → Held → Held
@@ -137,7 +154,7 @@ pub record Caused (asked : Asked) (a a' : Around) (fault : ConvertFault) : Type 
 -- accepted and no call failed, unless memory ran out.
 pub record Required (asked : Asked) (a a' : Around) (result : Result ℕ ConvertFault) : Type 0 where
   pub refuses : WhereRefused asked a (λ fault. IsErrAnd result (λ e. (e ≡ fault) ⊎ ((e ≡ OutOfMemory) ⊎ (e ≡ ReadFault))))
-  pub complete : IsAccepted asked a → (Rose a.reads_failed a'.reads_failed → ⊥) → (Rose a.output_failed a'.output_failed → ⊥) → IsOkUnless result OutOfMemory
+  pub complete : WhereTold asked a (λ paths. (Rose a.reads_failed a'.reads_failed → ⊥) → (Rose a.output_failed a'.output_failed → ⊥) → IsOkUnless result OutOfMemory)
 
 -- What holds on every answer: that nothing was done to the output where the input is refused, how much was read, and that no
 -- count of faults fell.

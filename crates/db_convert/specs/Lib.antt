@@ -3,5 +3,8 @@ pub mod Blocks
 pub mod Conversion
 pub mod Converts
 pub mod Example
+pub mod Orders
+pub mod Plans
 pub mod Reading
 pub mod Texts
+pub mod Turns

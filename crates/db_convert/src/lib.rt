@@ -5,13 +5,20 @@
 mod admission;
 mod bigram;
 mod converting;
+mod entry;
 mod fault;
 mod format;
 mod laws;
 mod list;
 mod locate02;
+mod mlocate;
+mod order;
 mod paths;
 mod reading;
+mod seek;
+#[cfg(test)]
+mod tests;
+mod writing;
 
 pub use admission::{first_refused, is_admitted};
 pub use bigram::{put_bigram, table_for};
