@@ -42,7 +42,10 @@ fn cause_of(fault: ConvertFault) -> Cause
         ConvertFault::Damage(damage) => Cause::Damage(damage),
         ConvertFault::ReadFault => Cause::ReadFault(NeededFile::Input),
         ConvertFault::TooLarge => Cause::TooLarge,
-        ConvertFault::NotAdmitted { index, cause } => Cause::NotAdmitted { index, fault: cause },
+        ConvertFault::NotAdmitted { index, cause } => Cause::NotAdmitted {
+            index,
+            fault: cause,
+        },
         ConvertFault::WriteFault => Cause::WriteFault,
         ConvertFault::OutOfMemory => Cause::OutOfMemory,
     }

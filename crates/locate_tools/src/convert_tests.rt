@@ -54,12 +54,7 @@ fn converted(
 }
 
 /// Whether a run over this input is done, tells nothing, and stores these bytes.
-fn stores(
-    alloc: Global,
-    words: &str,
-    input: &[u8],
-    expected: &[u8],
-) -> Result<bool, AllocError> {
+fn stores(alloc: Global, words: &str, input: &[u8], expected: &[u8]) -> Result<bool, AllocError> {
     let mut output = MemOutput::new(alloc);
     let found = converted(alloc, words, input, &mut output)?;
     Ok(found.as_slice() == b"0 ||".as_slice() && output.stored("/out") == Some(expected))
@@ -100,7 +95,11 @@ fn lists_and_locate02(rt: HostRuntime) -> Result<(), AllocError> {
         ("--to list", USR, USR_LINES),
         ("--from list --to list0", b"/a\n/b", b"/a\0/b\0"),
         ("--from list0 --to list0", b"/a\0/b\nc\0", b"/a\0/b\nc\0"),
-        ("--from list0 --to locate02", b"x\0x\0", b"\0LOCATE02\0\0x\0\x01\0"),
+        (
+            "--from list0 --to locate02",
+            b"x\0x\0",
+            b"\0LOCATE02\0\0x\0\x01\0",
+        ),
         ("--from list --to list", b"", b""),
         ("--from list --to locate02", b"", b"\0LOCATE02\0"),
         ("--from list --to mlocate", b"", front(72)),
@@ -201,11 +200,13 @@ fn goes_around(alloc: Global) -> Result<bool, AllocError> {
     let mut from_list = MemOutput::new(alloc);
     converted(alloc, "--from list --to locate02", USUAL, &mut from_list)?;
     let locate02 = from_list.stored("/out").unwrap_or(b"");
-    Ok(database.len() == 291
-        && locate02.len() == 108
-        && stores(alloc, "--from list --to mlocate", USUAL, &database)?
-        && stores(alloc, "--to list", &database, USUAL)?
-        && stores(alloc, "--to locate02", &database, locate02)?)
+    Ok(
+        database.len() == 291
+            && locate02.len() == 108
+            && stores(alloc, "--from list --to mlocate", USUAL, &database)?
+            && stores(alloc, "--to list", &database, USUAL)?
+            && stores(alloc, "--to locate02", &database, locate02)?,
+    )
 }
 
 #[test]
@@ -214,7 +215,12 @@ fn a_usual_machine(rt: HostRuntime) -> Result<(), AllocError> {
     let unordered = b"/srv/x\n/tmp\n/home/ann/notes.txt\n/srv\n/tmp\n";
     let ordered = b"/srv\n/tmp\n/home/ann/notes.txt\n/srv/x\n";
     let mut output = MemOutput::new(rt.alloc());
-    converted(rt.alloc(), "--from list --to mlocate", unordered, &mut output)?;
+    converted(
+        rt.alloc(),
+        "--from list --to mlocate",
+        unordered,
+        &mut output,
+    )?;
     let database = output.stored("/out").unwrap_or(b"");
     assert!(rt; stores(rt.alloc(), "--to list", database, ordered)?);
     Ok(())
@@ -223,18 +229,66 @@ fn a_usual_machine(rt: HostRuntime) -> Result<(), AllocError> {
 #[test]
 fn refused_inputs(rt: HostRuntime) -> Result<(), AllocError> {
     let rows: &[(&str, &[u8], &str)] = &[
-        ("--from list --to list0", b"/a\n\n", "1 ||convert: /in: damaged at byte 3: empty path,"),
-        ("--from list --to list0", b"\n", "1 ||convert: /in: damaged at byte 0: empty path,"),
-        ("--from list --to list0", b"/a\0\n", "1 ||convert: /in: damaged at byte 0: zero byte in path,"),
-        ("--from list --to mlocate", b"a\n\n", "1 ||convert: /in: damaged at byte 2: empty path,"),
-        ("--from list0 --to list", b"/a\0/b\nc\0", "1 ||convert: path 1: newline in path,"),
-        ("--from list --to mlocate", b"a\n", "1 ||convert: path 0: not a normal path below the root,"),
-        ("--from list --to mlocate", b"/a\n/\n/b/\n", "1 ||convert: path 1: not a normal path below the root,"),
-        ("--to list", front(130), "1 ||convert: /in: damaged at byte 122: cut short,"),
-        ("--to list", b"\0LOCATE02\0\0/a", "1 ||convert: /in: damaged at byte 10: cut short,"),
-        ("--from mlocate --to list", USR, "1 ||convert: /in: not a database,"),
-        ("--from locate02 --to list", EMPTY, "1 ||convert: /in: not a database,"),
-        ("--from bigram --to list", USR, "1 ||convert: /in: not a database,"),
+        (
+            "--from list --to list0",
+            b"/a\n\n",
+            "1 ||convert: /in: damaged at byte 3: empty path,",
+        ),
+        (
+            "--from list --to list0",
+            b"\n",
+            "1 ||convert: /in: damaged at byte 0: empty path,",
+        ),
+        (
+            "--from list --to list0",
+            b"/a\0\n",
+            "1 ||convert: /in: damaged at byte 0: zero byte in path,",
+        ),
+        (
+            "--from list --to mlocate",
+            b"a\n\n",
+            "1 ||convert: /in: damaged at byte 2: empty path,",
+        ),
+        (
+            "--from list0 --to list",
+            b"/a\0/b\nc\0",
+            "1 ||convert: path 1: newline in path,",
+        ),
+        (
+            "--from list --to mlocate",
+            b"a\n",
+            "1 ||convert: path 0: not a normal path below the root,",
+        ),
+        (
+            "--from list --to mlocate",
+            b"/a\n/\n/b/\n",
+            "1 ||convert: path 1: not a normal path below the root,",
+        ),
+        (
+            "--to list",
+            front(130),
+            "1 ||convert: /in: damaged at byte 122: cut short,",
+        ),
+        (
+            "--to list",
+            b"\0LOCATE02\0\0/a",
+            "1 ||convert: /in: damaged at byte 10: cut short,",
+        ),
+        (
+            "--from mlocate --to list",
+            USR,
+            "1 ||convert: /in: not a database,",
+        ),
+        (
+            "--from locate02 --to list",
+            EMPTY,
+            "1 ||convert: /in: not a database,",
+        ),
+        (
+            "--from bigram --to list",
+            USR,
+            "1 ||convert: /in: not a database,",
+        ),
         ("--to list", b"/a\n", "1 ||convert: /in: not a database,"),
         ("--to list", b"", "1 ||convert: /in: not a database,"),
         ("--from list", b"/a\n", "1 ||convert: bad usage,"),
