@@ -1,5 +1,5 @@
 -- What a run of `convert` does.
-use Rattle.std.specs.Prelude.{◌≡◌, ℕ, Option, Result, Ok, Err, option_map}
+use Rattle.std.specs.Prelude.{◌≡◌, ℕ, Result, Ok, Err, option_map}
 use Rattle.loc_outside.specs.Snapshot.{Snapshot}
 use Rattle.tool_words.specs.Convert.{ConvertAsked}
 use Rattle.tool_words.specs.declared.format.Format as words
