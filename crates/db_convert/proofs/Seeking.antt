@@ -99,7 +99,7 @@ same_values {K} R total apart p xs ys same e =
     let there : Contains ys x = Contains-from_any (λ a b t. apart a b ((Equal-is (R a b)).0 t)) x ys (sym (same x) ∙ has) in
     list_any_at p ys there.0 x there.1 (ap p there.2 ∙ found.4)
 
-in_directory : List ℕ → Entry → Bool
+abbrev in_directory : List ℕ → Entry → Bool
 in_directory dir e = bytes_eq e.0 dir
 
 same_directories : (paths : List (List ℕ)) (dir : List ℕ) → list_any (in_directory dir) (entries_of paths) ≡ list_any (λ path. bytes_eq (parent_of path) dir) paths
@@ -114,7 +114,7 @@ same_directories paths dir =
 
 module _ (paths : List (List ℕ)) (places : List ℕ) (order : IsOrder paths places) where
   pub order_length : length (entries_of paths) ≡ length places
-  order_length = ap length (sym order.ordered) ∙ length-map (entry_at paths) places
+  order_length = ap length (sym order.ordered) ∙ length-map places (entry_at paths)
 
   pub ordered_entry : (k : ℕ) → k < length places → get_or (entries_of paths) k none ≡ entry_at paths (get_or places k 0)
   ordered_entry k lt = ap (λ (es : List Entry). get_or es k none) (sym order.ordered) ∙ get_or-map (entry_at paths) places k 0 none lt
