@@ -13,3 +13,4 @@ mod Turning
 mod Seeking
 mod TurnTexts
 mod Conversions
+mod Targets
