@@ -12,6 +12,5 @@ mod Sorting
 mod Turning
 mod Seeking
 mod TurnTexts
-mod Inputs
-mod Parents
-mod Converting
+mod Conversions
+mod Targets

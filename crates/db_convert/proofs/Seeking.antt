@@ -99,7 +99,7 @@ same_values {K} R total apart p xs ys same e =
     let there : Contains ys x = Contains-from_any (λ a b t. apart a b ((Equal-is (R a b)).0 t)) x ys (sym (same x) ∙ has) in
     list_any_at p ys there.0 x there.1 (ap p there.2 ∙ found.4)
 
-in_directory : List ℕ → Entry → Bool
+abbrev in_directory : List ℕ → Entry → Bool
 in_directory dir e = bytes_eq e.0 dir
 
 same_directories : (paths : List (List ℕ)) (dir : List ℕ) → list_any (in_directory dir) (entries_of paths) ≡ list_any (λ path. bytes_eq (parent_of path) dir) paths
@@ -114,7 +114,7 @@ same_directories paths dir =
 
 module _ (paths : List (List ℕ)) (places : List ℕ) (order : IsOrder paths places) where
   pub order_length : length (entries_of paths) ≡ length places
-  order_length = ap length (sym order.ordered) ∙ length-map (entry_at paths) places
+  order_length = ap length (sym order.ordered) ∙ length-map places (entry_at paths)
 
   pub ordered_entry : (k : ℕ) → k < length places → get_or (entries_of paths) k none ≡ entry_at paths (get_or places k 0)
   ordered_entry k lt = ap (λ (es : List Entry). get_or es k none) (sym order.ordered) ∙ get_or-map (entry_at paths) places k 0 none lt
@@ -130,7 +130,7 @@ module _ (paths : List (List ℕ)) (places : List ℕ) (order : IsOrder paths pl
       kind_by path true (list_any_at (in_directory path) (entries_of paths) n none (omega (arith, lt, order_length))
       ((bytes_eq-Decides (get_or (entries_of paths) n none).0 path).1 (ap (λ (e : Entry). e.0) (ordered_entry n lt) ∙ is)))
 
-  pub directory_missing : (path : List ℕ) (n : ℕ) → n ≤ length places → IsPast paths places path n → IsAhead paths places path n → (n < length places → (entry_at paths (get_or places n 0)).0 ≡ path → ⊥) → File ≡ kind_in paths path
+  pub directory_missing : (path : List ℕ) (n : ℕ) → n ≤ length places → IsPast paths places path n → IsAhead paths places path n → (n < length places → bytes_eq (entry_at paths (get_or places n 0)).0 path ≡ false) → File ≡ kind_in paths path
   directory_missing path n within past ahead other = by (list_any (in_directory path) (entries_of paths)) refl
     where
       by : (b : Bool) → list_any (in_directory path) (entries_of paths) ≡ b → File ≡ kind_in paths path
@@ -143,4 +143,4 @@ module _ (paths : List (List ℕ)) (places : List ℕ) (order : IsOrder paths pl
           (λ lt. let l : n < length places = omega (arith, lt, order_length) in before_is path n l ∙ ahead l)
           found.2 (ap (λ (x : Entry). x.0) is ∙ (bytes_eq-Decides found.1.0 path).0 found.4) in
           let l : n < length places = omega (arith, at.0, order_length) in
-          absurd (other l (ap (λ (x : Entry). x.0) (sym (ordered_entry n l)) ∙ at.1))
+          absurd (true≢false (sym ((bytes_eq-Decides (entry_at paths (get_or places n 0)).0 path).1 (ap (λ (x : Entry). x.0) (sym (ordered_entry n l)) ∙ at.1)) ∙ other l))

@@ -1,5 +1,5 @@
 -- A sorted list without repeats.
-use Rattle.std.proofs.Common.{◌≡◌, ℕ, ◌+◌, ◌<◌, Bool, true, false, cond, List, [], ◌∷◌, length, get_or, map, refl, sym, ◌∙◌, ap, subst, arith, IsPermutation, Ordering, Less, is_lt, Contains}
+use Rattle.std.proofs.Common.{◌≡◌, ℕ, zero, suc, ◌+◌, ◌<◌, Bool, true, false, cond, List, [], ◌∷◌, ◌++◌, length, get_or, map, refl, sym, ◌∙◌, ap, subst, arith, IsPermutation, Ordering, Less, is_lt, Contains}
 use Rattle.std.specs.Prelude.{◌&&◌}
 use Rattle.std.proofs.lemmas.Cmp.{eq_by_cmp_equiv}
 use Rattle.std.proofs.lemmas.List.{length-map, get_or-map}
@@ -35,7 +35,7 @@ module _ {A B : Type 0} (f : A → B) (same : B → B → Bool) where
 -- what stands in order by a key, its keys stand in order
 pub sorted_keys : {K : Type 0} (R : K → K → Ordering) (f : ℕ → K) (xs : List ℕ) → IsSortedByKey f R xs → IsSorted R (map f xs)
 sorted_keys R f xs up k d low high =
-    let len = length-map f xs in
+    let len = length-map xs f in
     let next : get_or (map f xs) (k + 1) d ≡ f (get_or xs (k + 1) 0) = get_or-map f xs (k + 1) 0 d (omega (arith, high, len)) in
     let here : get_or (map f xs) k d ≡ f (get_or xs k 0) = get_or-map f xs k 0 d (omega (arith, high, len)) in
     (λ i. is_lt (R (next i) (here i))) ∙ up k 0 low (omega (arith, high, len))
@@ -48,6 +48,7 @@ module _ {K : Type 0} (R : K → K → Ordering) (total : IsTotalOrder R) (apart
   below_by x (k ∷ ks) h = rw (h.0, below_by x ks h.1) refl
 
   strictly : (ks : List K) → IsStrictlySortedBy R ks → Sorted R ks
+  unfolding IsStrictlySortedBy
   strictly [] h = refl
   strictly (k ∷ ks) h = rw (below_by k ks h.0, strictly ks h.1) refl
 
@@ -68,11 +69,22 @@ module _ {K : Type 0} (R : K → K → Ordering) (total : IsTotalOrder R) (apart
 -- ---- all places of a list
 
 pub each_place : {X : Type 0} {Y : Type 0} (f : X → Y) (d : X) (xs : List X) → map (λ k. f (get_or xs k d)) (range_with_len 0 (length xs)) ≡ map f xs
-each_place {X} f d xs = from 0 xs (λ k. refl)
+each_place {X} f d xs = from 0 xs (λ k. ap (λ (n : ℕ). get_or xs n d) {x = k} {y = 0 + k} (omega arith))
   where
     from : (start : ℕ) (ys : List X) → ((k : ℕ) → get_or ys k d ≡ get_or xs (start + k) d) → map (λ k. f (get_or xs k d)) (range_with_len start (length ys)) ≡ map f ys
     from start [] same = refl
-    from start (y ∷ ys) same = λ i. (ap f (ap (λ (n : ℕ). get_or xs n d) (omega arith) ∙ sym (same 0)) i) ∷ from (start + 1) ys (λ k. same (k + 1) ∙ ap (λ (n : ℕ). get_or xs n d) (omega arith)) i
+    from start (y ∷ ys) same =
+        let here : get_or xs start d ≡ y = sym (same 0 ∙ ap (λ (n : ℕ). get_or xs n d) {x = start + 0} {y = start} (omega arith)) in
+        λ i. f (here i) ∷ from (start + 1) ys (λ k.
+        ap (λ (n : ℕ). get_or (y ∷ ys) n d) {x = suc k} {y = k + 1} (omega arith) ∙ same (k + 1) ∙ ap (λ (n : ℕ). get_or xs n d) {x = start + (k + 1)} {y = start + 1 + k} (omega arith)) i
+
+more_from : (start n : ℕ) → range_with_len start n ++ (start + n) ∷ [] ≡ range_with_len start (suc n)
+more_from start zero = ap (λ (k : ℕ). k ∷ []) {x = start + 0} {y = start} (omega arith)
+more_from start (suc n) =
+    ap (λ (k : ℕ). start ∷ range_with_len (start + 1) n ++ k ∷ []) {x = start + suc n} {y = start + 1 + n} (omega arith) ∙ ap (λ (l : List ℕ). start ∷ l) (more_from (start + 1) n)
+
+pub range_more : (n : ℕ) → range_with_len 0 n ++ n ∷ [] ≡ range_with_len 0 (n + 1)
+range_more n = ap (λ (k : ℕ). range_with_len 0 n ++ k ∷ []) {x = n} {y = 0 + n} (omega arith) ∙ more_from 0 n ∙ ap (range_with_len 0) {x = suc n} {y = n + 1} (omega arith)
 
 pub places_within : (n : ℕ) → All (λ k. k < n) (range_with_len 0 n)
 places_within n k d lt =

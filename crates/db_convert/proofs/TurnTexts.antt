@@ -1,16 +1,17 @@
 -- The text of entries, one after the other.
-use Rattle.std.proofs.Common.{◌≡◌, ℕ, zero, suc, ◌+◌, ◌-◌, ◌<◌, ◌≤◌, Bool, true, false, cond, All, List, [], ◌∷◌, ◌++◌, map, length, get_or, drop, Option, Some, None, refl, sym, ap, subst, ◌∙◌, append-nil, arith}
+use Rattle.std.proofs.Common.{◌≡◌, ℕ, zero, suc, ◌+◌, ◌-◌, ◌<◌, ◌≤◌, Bool, true, false, cond, All, List, [], ◌∷◌, ◌++◌, map, length, get_or, drop, Option, Some, None, refl, sym, ap, subst, ◌∙◌, append-nil, arith, Result, Ok, Err, OnOk, OnErr}
 use Rattle.std.specs.Str.{bytes_eq}
 use Rattle.std.proofs.lemmas.Grind.{flat_map-append}
+use Rattle.path_order.specs.declared.kind.Kind.{Kind}
 use Rattle.path_order.specs.Path.{joined, parent_of, base_of}
 use Rattle.path_order.proofs.ParentLemmas.{HasParent, has_parent}
 use Rattle.byte_feed.specs.Field.{IsText, max_path}
 use Rattle.byte_feed.specs.Front.{spelling}
 use Rattle.byte_feed.specs.Paths.{IsPath}
-use Rattle.mlocate_db.specs.Items.{Item, HeadItem, EndItem, mlocate, spell}
+use Rattle.mlocate_db.specs.Items.{Item, HeadItem, EntryItem, EndItem, mlocate, spell}
 use Rattle.db_convert.specs.declared.format.Format.TheVariants.{Mlocate}
 use Rattle.db_convert.specs.Admission.{first_refused}
-use Rattle.db_convert.specs.Blocks.{Entry, entry_item, entries_of}
+use Rattle.db_convert.specs.Blocks.{Entry, entry_item, entries_of, kind_in}
 use Rattle.db_convert.specs.Orders.{IsOrder, entry_at}
 use Rattle.db_convert.specs.Turns.{head_item, opening, turn, closing, items_from, open_at}
 use Rattle.db_convert.proofs.Pieces.{drop_next, drop_end}
@@ -23,6 +24,14 @@ one_item i = sym (append-nil (spell i))
 
 pub two_items : (i j : Item) → spell i ++ spell j ≡ spelling mlocate (i ∷ j ∷ [])
 two_items i j = ap (λ (l : List ℕ). spell i ++ l) (one_item j)
+
+pub on_ok : {T E : Type 0} (r : Result T E) (A B : Type 0) → (A → B) → OnOk r A → OnOk r B
+on_ok (Ok x) A B f h = f h
+on_ok (Err e) A B f h = tt
+
+pub on_err : {T E : Type 0} (r : Result T E) (A B : Type 0) → (A → B) → OnErr r A → OnErr r B
+on_err (Ok x) A B f h = tt
+on_err (Err e) A B f h = f h
 
 -- ---- the directory that is open
 
@@ -53,6 +62,15 @@ no_closing paths places at none = ap (λ (k : ℕ). spelling mlocate (closing (o
 pub turn_text : (paths : List (List ℕ)) (opened : Option (List ℕ)) (e : Entry) → spelling mlocate (opening opened e.0) ++ spell (entry_item paths e.0 e.1) ≡ spelling mlocate (turn paths opened e)
 turn_text paths opened e =
     ap (λ (l : List ℕ). spelling mlocate (opening opened e.0) ++ l) (one_item (entry_item paths e.0 e.1)) ∙ sym (flat_map-append spell (opening opened e.0) (entry_item paths e.0 e.1 ∷ []))
+
+pub turn_is : (paths : List (List ℕ)) (places : List ℕ) (at : ℕ) (path dir name : List ℕ) (kind : Kind) → path ≡ get_or paths (get_or places at 0) [] → dir ≡ parent_of path → name ≡ base_of path → kind ≡ kind_in paths path → joined (parent_of path) (base_of path) ≡ path
+    → spelling mlocate (opening (open_at paths places at) dir) ++ spell (EntryItem kind name) ≡ spelling mlocate (turn paths (open_at paths places at) (entry_at paths (get_or places at 0)))
+turn_is paths places at path dir name kind is dir_is name_is kind_is again =
+    let e : Entry = entry_at paths (get_or places at 0) in
+    let d : dir ≡ e.0 = dir_is ∙ ap parent_of is in
+    let n : name ≡ e.1 = name_is ∙ ap base_of is in
+    let k : kind ≡ kind_in paths (joined e.0 e.1) = kind_is ∙ ap (kind_in paths) (sym again) ∙ ap (λ (p : List ℕ). kind_in paths (joined (parent_of p) (base_of p))) is in
+    (λ i. spelling mlocate (opening (open_at paths places at) (d i)) ++ spell (EntryItem (k i) (n i))) ∙ turn_text paths (open_at paths places at) e
 
 -- an admitted path: its directory and its name can be written, and make the path
 pub record Writes (path : List ℕ) : Type 0 where

@@ -82,19 +82,21 @@ regroup close head entry entries items =
     ∙ append_assoc close (head ∷ []) (entry ∷ entries ++ (EndItem ∷ items))
     ∙ ap (λ (l : List Item). close ++ head ∷ entry ∷ l) (sym (append_assoc entries (EndItem ∷ []) items))
 
-pub blocks_from : (paths : List (List ℕ)) (opened : Option (List ℕ)) (dirs : List (List ℕ)) → Sorted path_cmp dirs → IsOther opened dirs → Each (IsParent paths) dirs → items_from paths opened (listed paths dirs) ≡ closing opened ++ flat_map (block_items paths) dirs
-blocks_from paths opened [] up other has = sym (append-nil (closing opened))
-blocks_from paths opened (dir ∷ dirs) up other has = by (names_in paths dir) refl
+-- the block of a directory, and the items behind it
+block_from : (paths : List (List ℕ)) (opened : Option (List ℕ)) (dir : List ℕ) (dirs : List (List ℕ)) → IsOther opened (dir ∷ dirs) → IsParent paths dir → items_from paths (Some dir) (listed paths dirs) ≡ EndItem ∷ flat_map (block_items paths) dirs
+    → items_from paths opened (listed paths (dir ∷ dirs)) ≡ closing opened ++ flat_map (block_items paths) (dir ∷ dirs)
+block_from paths opened dir dirs other has later = by (names_in paths dir) refl
   where
-    later : items_from paths (Some dir) (listed paths dirs) ≡ EndItem ∷ flat_map (block_items paths) dirs
-    later = blocks_from paths (Some dir) dirs (second _ _ up) (first _ _ up) has.1
-
     by : (names : List (List ℕ)) → names_in paths dir ≡ names
         → items_from paths opened (in_dir dir names ++ listed paths dirs) ≡ closing opened ++ ((head_item dir ∷ map (entry_item paths dir) names ++ EndItem ∷ []) ++ flat_map (block_items paths) dirs)
-    by [] e = absurd (names_some paths dir has.0 e)
+    by [] e = absurd (names_some paths dir has e)
     by (name ∷ names) e =
         (λ i. (other_open opened dir dirs other i ++ entry_item paths dir name ∷ []) ++ (same_dir paths dir names (listed paths dirs) ∙ ap (λ (l : List Item). map (entry_item paths dir) names ++ l) later) i)
         ∙ regroup (closing opened) (head_item dir) (entry_item paths dir name) (map (entry_item paths dir) names) (flat_map (block_items paths) dirs)
+
+blocks_from : (paths : List (List ℕ)) (opened : Option (List ℕ)) (dirs : List (List ℕ)) → Sorted path_cmp dirs → IsOther opened dirs → Each (IsParent paths) dirs → items_from paths opened (listed paths dirs) ≡ closing opened ++ flat_map (block_items paths) dirs
+blocks_from paths opened [] up other has = sym (append-nil (closing opened))
+blocks_from paths opened (dir ∷ dirs) up other has = block_from paths opened dir dirs other has.0 (blocks_from paths (Some dir) dirs (second _ _ up) (first _ _ up) has.1)
 
 pub blocks_are : (paths : List (List ℕ)) → items_from paths None (entries_of paths) ≡ flat_map (block_items paths) (parents paths)
 blocks_are paths = ap (items_from paths None) (entries_listed paths) ∙ blocks_from paths None (parents paths) (sorted_unique_is_sorted path_cmp (map parent_of paths)) tt (are_parents paths)

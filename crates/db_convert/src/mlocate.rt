@@ -49,7 +49,7 @@ pub(crate) fn plan_of(alloc: Global, paths: &Paths) -> Result<Plan, AllocError>
 fn put_front<K: Sink>(sink: &mut K, conf: &[u8]) -> Result<(), Failed>
     requires { conf.now ≡ block default_settings }
     ensures ok { OnOk result (Appends (K.taken sink.old) (K.taken sink.new) (spell header_item)) }
-    ensures short { OnErr result (AppendsShort (K.taken sink.old) (K.taken sink.new) (spell header_item)) }
+    ensures err { OnErr result (AppendsShort (K.taken sink.old) (K.taken sink.new) (spell header_item)) }
     ensures cause { HasCause (K.faults sink.old) (K.faults sink.new) result }
     ensures kept { K.kept sink.old sink.new }
 {
@@ -60,7 +60,7 @@ fn put_front<K: Sink>(sink: &mut K, conf: &[u8]) -> Result<(), Failed>
 fn put_head<K: Sink>(sink: &mut K, dir: &[u8]) -> Result<(), Failed>
     requires { IsText max_path dir.now }
     ensures ok { OnOk result (Appends (K.taken sink.old) (K.taken sink.new) (spell (head_item dir.now))) }
-    ensures short { OnErr result (AppendsShort (K.taken sink.old) (K.taken sink.new) (spell (head_item dir.now))) }
+    ensures err { OnErr result (AppendsShort (K.taken sink.old) (K.taken sink.new) (spell (head_item dir.now))) }
     ensures cause { HasCause (K.faults sink.old) (K.faults sink.new) result }
     ensures kept { K.kept sink.old sink.new }
 {
@@ -78,7 +78,7 @@ fn put_opening<K: Sink>(
     requires there { at ≤ length places.now }
     requires text { IsText max_path dir.now }
     ensures ok { OnOk result (Appends (K.taken sink.old) (K.taken sink.new) (spelling mlocate (opening (open_at paths.now places.now at) dir.now))) }
-    ensures short { OnErr result (AppendsShort (K.taken sink.old) (K.taken sink.new) (spelling mlocate (opening (open_at paths.now places.now at) dir.now))) }
+    ensures err { OnErr result (AppendsShort (K.taken sink.old) (K.taken sink.new) (spelling mlocate (opening (open_at paths.now places.now at) dir.now))) }
     ensures cause { HasCause (K.faults sink.old) (K.faults sink.new) result }
     ensures kept { K.kept sink.old sink.new }
 {
@@ -105,7 +105,7 @@ fn put_turn<K: Sink>(
     requires admitted { first_refused Mlocate paths.now ≡ None }
     requires there { at < length places.now }
     ensures ok { OnOk result (Appends (K.taken sink.old) (K.taken sink.new) (spelling mlocate (turn paths.now (open_at paths.now places.now at) (entry_at paths.now (slice_index_or places.now at 0))))) }
-    ensures short { OnErr result (AppendsShort (K.taken sink.old) (K.taken sink.new) (spelling mlocate (turn paths.now (open_at paths.now places.now at) (entry_at paths.now (slice_index_or places.now at 0))))) }
+    ensures err { OnErr result (AppendsShort (K.taken sink.old) (K.taken sink.new) (spelling mlocate (turn paths.now (open_at paths.now places.now at) (entry_at paths.now (slice_index_or places.now at 0))))) }
     ensures cause { HasCause (K.faults sink.old) (K.faults sink.new) result }
     ensures kept { K.kept sink.old sink.new }
 {
@@ -119,7 +119,7 @@ fn put_turn<K: Sink>(
 /// Writes the end of the last directory, if there is one.
 fn put_closing<K: Sink>(sink: &mut K, paths: &Paths, places: &[usize]) -> Result<(), Failed>
     ensures ok { OnOk result (Appends (K.taken sink.old) (K.taken sink.new) (spelling mlocate (closing (open_at paths.now places.now (length places.now))))) }
-    ensures short { OnErr result (AppendsShort (K.taken sink.old) (K.taken sink.new) (spelling mlocate (closing (open_at paths.now places.now (length places.now))))) }
+    ensures err { OnErr result (AppendsShort (K.taken sink.old) (K.taken sink.new) (spelling mlocate (closing (open_at paths.now places.now (length places.now))))) }
     ensures cause { HasCause (K.faults sink.old) (K.faults sink.new) result }
     ensures kept { K.kept sink.old sink.new }
 {
@@ -135,7 +135,7 @@ fn put_blocks<K: Sink>(sink: &mut K, paths: &Paths, places: &[usize]) -> Result<
     requires readable { All IsPath paths.now }
     requires admitted { first_refused Mlocate paths.now ≡ None }
     ensures ok { OnOk result (Appends (K.taken sink.old) (K.taken sink.new) (spelling mlocate (items_from paths.now None (entries_of paths.now)))) }
-    ensures short { OnErr result (AppendsShort (K.taken sink.old) (K.taken sink.new) (spelling mlocate (items_from paths.now None (entries_of paths.now)))) }
+    ensures err { OnErr result (AppendsShort (K.taken sink.old) (K.taken sink.new) (spelling mlocate (items_from paths.now None (entries_of paths.now)))) }
     ensures cause { HasCause (K.faults sink.old) (K.faults sink.new) result }
     ensures kept { K.kept sink.old sink.new }
 {
@@ -152,7 +152,7 @@ pub(crate) fn put_mlocate<K: Sink>(sink: &mut K, plan: &Plan, paths: &Paths) -> 
     requires readable { All IsPath paths.now }
     requires admitted { first_refused Mlocate paths.now ≡ None }
     ensures ok { OnOk result (Appends (K.taken sink.old) (K.taken sink.new) (encode_mlocate paths.now)) }
-    ensures short { OnErr result (AppendsShort (K.taken sink.old) (K.taken sink.new) (encode_mlocate paths.now)) }
+    ensures err { OnErr result (AppendsShort (K.taken sink.old) (K.taken sink.new) (encode_mlocate paths.now)) }
     ensures cause { HasCause (K.faults sink.old) (K.faults sink.new) result }
     ensures kept { K.kept sink.old sink.new }
 {

@@ -1,6 +1,6 @@
 //! The order in which a database of mlocate has its paths.
-ghost use Rattle.std.specs.Prelude.{◌≡◌, OnOk, OnErr, IfOk, IsPermutation, range_with_len, length};
-ghost use Rattle.std.specs.List.{dedup};
+ghost use Rattle.std.specs.Prelude.{◌≡◌, OnOk, OnErr, IfOk, IsPermutation, length};
+ghost use Rattle.std.specs.List.{dedup, range_with_len};
 ghost use Rattle.std.specs.List.Sorted.{IsSortedByKey};
 ghost use Rattle.std.specs.Ordering.{eq_by_cmp};
 ghost use Rattle.db_convert.specs.Blocks.{entry_cmp};

@@ -1,8 +1,6 @@
 //! Where a directory is among the paths of a list, which stand in order.
-ghost use Rattle.std.specs.Prelude.{◌≡◌, ◌<◌, ◌≤◌, false, length, position_or_len, not};
-ghost use Rattle.std.specs.Ordering.{is_lt};
-ghost use Rattle.path_order.specs.Order.{path_cmp};
-ghost use Rattle.db_convert.specs.Blocks.{entries_of, kind_in};
+ghost use Rattle.std.specs.Prelude.{◌≡◌, ◌<◌, ◌≤◌, false, length};
+ghost use Rattle.db_convert.specs.Blocks.{kind_in};
 ghost use Rattle.db_convert.specs.Orders.{IsAhead, IsOrder, IsPast, is_before as before};
 
 use crate::entry::parent;

@@ -48,7 +48,7 @@ pub(crate) fn put_paths<K: Sink>(sink: &mut K, target: Target, paths: &Paths) ->
     requires readable { All IsPath paths.now }
     requires admitted { first_refused (format_of target) paths.now ≡ None }
     ensures ok { OnOk result (Appends (K.taken sink.old) (K.taken sink.new) (encode (format_of target) paths.now)) }
-    ensures short { OnErr result (AppendsShort (K.taken sink.old) (K.taken sink.new) (encode (format_of target) paths.now)) }
+    ensures err { OnErr result (AppendsShort (K.taken sink.old) (K.taken sink.new) (encode (format_of target) paths.now)) }
     ensures cause { HasCause (K.faults sink.old) (K.faults sink.new) result }
     ensures kept { K.kept sink.old sink.new }
 {

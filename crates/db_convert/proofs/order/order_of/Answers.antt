@@ -25,4 +25,4 @@ ordered paths all sorted kept is moved up left =
     }
 
 pub returns : goal.returns
-returns c = ordered c.args.paths.now _ _ _ c.in_ok-all_places.ensures c.in_ok-sort_places.ensures.same c.in_ok-sort_places.ensures.sorted c.drop_repeats.ensures
+returns c = ordered c.args.paths.now _ _ _ c.in_ok-places.ensures c.in_ok-sort_places.ensures.same c.in_ok-sort_places.ensures.sorted c.drop_repeats.ensures

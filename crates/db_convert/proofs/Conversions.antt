@@ -14,7 +14,6 @@ use Rattle.db_convert.specs.declared.fault.ConvertFault.TheVariants.{Missing, No
 use Rattle.db_convert.specs.Admission.{first_refused}
 use Rattle.db_convert.specs.Conversion.{encode}
 use Rattle.db_convert.specs.Converts.{AfterFault, Around, Asked, Bounded, Caused, ConvertDoes, IsAccepted, PendsPart, Required, Stored, WhereTold, admitted_to, is_of_reading, is_refusal, none_or_fault, paths_in, read_found, stored_in, then_admitted, with_file}
-use Rattle.db_convert.proofs.Inputs.{admitted_is}
 use Rattle.db_convert.proofs.ReadBack.{all_back}
 
 abbrev Paths : Type 0
@@ -68,14 +67,14 @@ required_by asked a a' fault h other = record { refuses = refuses other; complet
     refuses (inl p) files e told is = hidden fault p
       where
         hidden : (f : ConvertFault) → (f ≢ OutOfMemory → f ≢ ReadFault → ⊥) → (f ≡ e) ⊎ ((f ≡ OutOfMemory) ⊎ (f ≡ ReadFault))
-        hidden OutOfMemory no = inr (inl refl)
-        hidden ReadFault no = inr (inr refl)
-        hidden Missing no = absurd (no (λ x. cc) (λ x. cc))
-        hidden NotADatabase no = absurd (no (λ x. cc) (λ x. cc))
-        hidden (Damage damage) no = absurd (no (λ x. cc) (λ x. cc))
-        hidden TooLarge no = absurd (no (λ x. cc) (λ x. cc))
-        hidden (NotAdmitted index cause) no = absurd (no (λ x. cc) (λ x. cc))
-        hidden WriteFault no = absurd (no (λ x. cc) (λ x. cc))
+        hidden OutOfMemory never = inr (inl refl)
+        hidden ReadFault never = inr (inr refl)
+        hidden Missing never = absurd (never (λ x. cc) (λ x. cc))
+        hidden NotADatabase never = absurd (never (λ x. cc) (λ x. cc))
+        hidden (Damage damage) never = absurd (never (λ x. cc) (λ x. cc))
+        hidden TooLarge never = absurd (never (λ x. cc) (λ x. cc))
+        hidden (NotAdmitted index cause) never = absurd (never (λ x. cc) (λ x. cc))
+        hidden WriteFault never = absurd (never (λ x. cc) (λ x. cc))
 
     complete : (files : Files) (paths : List (List ℕ)) → a.files ≡ Some files → paths_in files asked.input asked.from asked.to ≡ Ok paths → (Rose a.reads_failed a'.reads_failed → ⊥) → (Rose a.output_failed a'.output_failed → ⊥) → fault ≡ OutOfMemory
     complete files paths told is reads outputs = whole other
@@ -85,14 +84,14 @@ required_by asked a a' fault h other = record { refuses = refuses other; complet
         whole (inl p) = named fault p h.read_fault
           where
             named : (f : ConvertFault) → (f ≢ OutOfMemory → f ≢ ReadFault → ⊥) → (f ≡ ReadFault → Rose a.reads_failed a'.reads_failed) → f ≡ OutOfMemory
-            named OutOfMemory no rose = refl
-            named ReadFault no rose = absurd (reads (rose refl))
-            named Missing no rose = absurd (no (λ x. cc) (λ x. cc))
-            named NotADatabase no rose = absurd (no (λ x. cc) (λ x. cc))
-            named (Damage damage) no rose = absurd (no (λ x. cc) (λ x. cc))
-            named TooLarge no rose = absurd (no (λ x. cc) (λ x. cc))
-            named (NotAdmitted index cause) no rose = absurd (no (λ x. cc) (λ x. cc))
-            named WriteFault no rose = absurd (no (λ x. cc) (λ x. cc))
+            named OutOfMemory never rose = refl
+            named ReadFault never rose = absurd (reads (rose refl))
+            named Missing never rose = absurd (never (λ x. cc) (λ x. cc))
+            named NotADatabase never rose = absurd (never (λ x. cc) (λ x. cc))
+            named (Damage damage) never rose = absurd (never (λ x. cc) (λ x. cc))
+            named TooLarge never rose = absurd (never (λ x. cc) (λ x. cc))
+            named (NotAdmitted index cause) never rose = absurd (never (λ x. cc) (λ x. cc))
+            named WriteFault never rose = absurd (never (λ x. cc) (λ x. cc))
 
 which : (fault : ConvertFault) → (fault ≢ OutOfMemory → fault ≢ ReadFault → ⊥) ⊎ ((fault ≢ OutOfMemory) × (fault ≢ ReadFault))
 which OutOfMemory = inl (λ memory read. memory refl)
@@ -165,6 +164,9 @@ not_admitted asked a a' paths fault w why output_later held begins = record {
     no_written : (fault ≡ OutOfMemory) ⊎ (admitted_to asked.to paths ≡ Err fault) → fault ≢ WriteFault
     no_written (inl e) r = let both : OutOfMemory ≡ WriteFault = sym e ∙ r in cc
     no_written (inr e) r = (only_refused paths (first_refused asked.to paths) fault e).0 r
+
+admitted_is : (to : Format) (paths : List (List ℕ)) → first_refused to paths ≡ None → admitted_to to paths ≡ Ok paths
+admitted_is to paths e = ap (none_or_fault paths) e
 
 -- these are the paths that are converted
 converted : (asked : Asked) (a a' : Around) (paths : List (List ℕ)) → WasRead asked a a' paths → first_refused asked.to paths ≡ None → (files : Files) → a.files ≡ Some files → paths_in files asked.input asked.from asked.to ≡ Ok paths
