@@ -12,24 +12,24 @@ use Rattle.std.proofs.lemmas.Slice.Eq.{bytes_eq-Decides}
 use Rattle.path_order.specs.Path.{parent_of, base_of, joined}
 use Rattle.path_order.specs.Order.{path_cmp}
 use Rattle.path_order.proofs.OrderLemmas.{path_total, path_same}
-use Rattle.db_convert.specs.Blocks.{sorted_unique, byte_cmp, parents, names_in, Entry, entry_of, entry_path, entry_cmp, by_directory}
+use Rattle.db_convert.specs.Blocks.{sorted_unique, byte_cmp, parents, names_in, Entry, entry_of, entry_path, entry_cmp, entries_of, by_directory}
 use Rattle.db_convert.proofs.DatabaseItems.{block_paths}
 
 abbrev pub marked : {K : Type 0} → List K → List (K × Unit {0})
 marked ks = map (λ k. (k, tt {0})) ks
 
-first : (a b : Bool) → (a && b) ≡ true → a ≡ true
+pub first : (a b : Bool) → (a && b) ≡ true → a ≡ true
 first true b e = refl
 first false b e = absurd cc
 
-second : (a b : Bool) → (a && b) ≡ true → b ≡ true
+pub second : (a b : Bool) → (a && b) ≡ true → b ≡ true
 second true b e = e
 second false b e = absurd cc
 
 pub both : (a b : Bool) → a ≡ true → b ≡ true → (a && b) ≡ true
 both a b p q = rw (p, q) refl
 
-is_true : (b : Bool) → T b → b ≡ true
+pub is_true : (b : Bool) → T b → b ≡ true
 is_true true h = refl
 is_true false h = absurd h
 
@@ -248,8 +248,11 @@ paths_listed : (paths dirs : List (List ℕ)) → map entry_path (listed paths d
 paths_listed paths [] = refl
 paths_listed paths (dir ∷ dirs) = block_listed dir (names_in paths dir) (listed paths dirs) (block_paths paths dirs) (paths_listed paths dirs)
 
+-- the entries in order are those of each directory, one directory after the other
+pub entries_listed : (paths : List (List ℕ)) → entries_of paths ≡ listed paths (parents paths)
+entries_listed paths =
+    sorted_is entry_cmp entry_total entry_apart (listed paths (parents paths)) (map entry_of paths) (sorted_listed paths (parents paths) (sorted_unique_is_sorted path_cmp (map parent_of paths)))
+    (λ q. among_listed paths q.0 q.1 (parents paths) ∙ among_paths paths q.0 q.1)
+
 pub by_directory_is : (paths : List (List ℕ)) → block_paths paths (parents paths) ≡ by_directory paths
-by_directory_is paths =
-    sym (paths_listed paths (parents paths))
-    ∙ ap (map entry_path) (sym (sorted_is entry_cmp entry_total entry_apart (listed paths (parents paths)) (map entry_of paths) (sorted_listed paths (parents paths) (sorted_unique_is_sorted path_cmp (map parent_of paths)))
-    (λ q. among_listed paths q.0 q.1 (parents paths) ∙ among_paths paths q.0 q.1)))
+by_directory_is paths = sym (paths_listed paths (parents paths)) ∙ ap (map entry_path) (sym (entries_listed paths))

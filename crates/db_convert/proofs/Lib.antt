@@ -8,3 +8,9 @@ pub mod Directories
 mod ReadBack
 mod Refused
 mod Example
+mod Sorting
+mod Turning
+mod Seeking
+mod TurnTexts
+mod Conversions
+mod Targets

@@ -15,7 +15,7 @@ pub record Wrote (old new : KnownBytes) (rest whole : List ℕ) : Type 0 where
   pub took : Appends old new done
   pub all : done ++ rest ≡ whole
 
-nothing_took : (a : KnownBytes) → Appends a a []
+pub nothing_took : (a : KnownBytes) → Appends a a []
 nothing_took None = tt
 nothing_took (Some bytes) = sym (append-nil bytes)
 

@@ -86,7 +86,7 @@ not_root path e =
     turned true e = absurd cc
     turned false e = refl
 
-each_of : (P : List ℕ → Type 0) (paths : List (List ℕ)) → ((k : ℕ) (d : List ℕ) → k < length paths → P (get_or paths k d)) → Each P paths
+pub each_of : (P : List ℕ → Type 0) (paths : List (List ℕ)) → ((k : ℕ) (d : List ℕ) → k < length paths → P (get_or paths k d)) → Each P paths
 each_of P [] h = tt
 each_of P (path ∷ paths) h = (h 0 path (omega arith), each_of P paths (λ k d lt. h (suc k) d (omega (arith, lt))))
 

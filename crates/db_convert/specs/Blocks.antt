@@ -72,6 +72,10 @@ entry_path entry = joined entry.0 entry.1
 abbrev pub entry_cmp : Entry → Entry → Ordering
 entry_cmp a b = ordering_then (path_cmp a.0 b.0) (byte_cmp a.1 b.1)
 
+-- the entries of paths in that order, each once
+abbrev pub entries_of : List (List ℕ) → List Entry
+entries_of paths = sorted_unique entry_cmp (map entry_of paths)
+
 -- Admitted paths in that order, each once. Of other paths the directory and the name need not give the path again.
 abbrev pub by_directory : List (List ℕ) → List (List ℕ)
-by_directory paths = map entry_path (sorted_unique entry_cmp (map entry_of paths))
+by_directory paths = map entry_path (entries_of paths)

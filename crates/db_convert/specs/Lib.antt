@@ -1,6 +1,10 @@
 pub mod Admission
 pub mod Blocks
 pub mod Conversion
+pub mod Converts
 pub mod Example
+pub mod Orders
+pub mod Plans
 pub mod Reading
 pub mod Texts
+pub mod Turns

@@ -4,17 +4,26 @@
 
 mod admission;
 mod bigram;
+mod converting;
+mod entry;
 mod fault;
 mod format;
 mod laws;
 mod list;
 mod locate02;
+mod mlocate;
+mod order;
 mod paths;
 mod reading;
+mod seek;
+#[cfg(test)]
+mod tests;
+mod writing;
 
 pub use admission::{first_refused, is_admitted};
 pub use bigram::{put_bigram, table_for};
-pub use fault::ListFault;
+pub use converting::convert;
+pub use fault::{ConvertFault, ListFault};
 pub use format::{AdmitCause, Format};
 pub use laws::{example_is_written, written_is_read_back};
 pub use list::put_list;

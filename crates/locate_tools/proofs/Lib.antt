@@ -4,6 +4,7 @@ pub mod Finding
 pub mod CountingAll
 pub mod Runs
 pub mod Updating
+pub mod Converting
 pub mod Counting
 pub mod ToldOf
 pub mod Queries

@@ -37,9 +37,9 @@ locate_only : (o : Option LocateAsked) (a : Asked) → (option_map Locate o >>= 
 locate_only None a is = absurd cc
 locate_only (Some l) a is = let same : Locate l ≡ a = cc in ap tool_for same
 
-convert_never : (o : Option ConvertAsked) (a : Asked) → (option_map Convert o >>= built) ≡ Some a → ⊥
-convert_never None a is = absurd cc
-convert_never (Some v) a is = absurd cc
+convert_only : (o : Option ConvertAsked) (a : Asked) → (option_map Convert o >>= built) ≡ Some a → tools.Convert ≡ tool_for a
+convert_only None a is = absurd cc
+convert_only (Some v) a is = let same : Convert v ≡ a = cc in ap tool_for same
 
 exercise_never : (o : Option ExerciseAsked) (a : Asked) → (option_map Exercise o >>= built) ≡ Some a → ⊥
 exercise_never None a is = absurd cc
@@ -49,7 +49,7 @@ by_tool : (t : Option Tool) (words : List (List ℕ)) (path : Option (List ℕ))
 by_tool None words path a is = absurd cc
 by_tool (Some tools.Updatedb) words path a is = ap (λ (t : Tool). Some t) (updatedb_only (updatedb_asked words) a is)
 by_tool (Some tools.Locate) words path a is = ap (λ (t : Tool). Some t) (locate_only (locate_asked words path) a is)
-by_tool (Some tools.Convert) words path a is = absurd (convert_never (convert_asked words) a is)
+by_tool (Some tools.Convert) words path a is = ap (λ (t : Tool). Some t) (convert_only (convert_asked words) a is)
 by_tool (Some tools.Exercise) words path a is = absurd (exercise_never (exercise_asked words) a is)
 
 tool_asked : (call : CallMade) (a : Asked) → request_of call ≡ Some a → tool_called call ≡ Some (tool_for a)
@@ -61,6 +61,9 @@ tool_of_locate call a is = tool_asked call (Locate a) is
 
 pub tool_of_updatedb : (call : CallMade) (a : UpdatedbAsked) → request_of call ≡ Some (Updatedb a) → tool_called call ≡ Some tools.Updatedb
 tool_of_updatedb call a is = tool_asked call (Updatedb a) is
+
+pub tool_of_convert : (call : CallMade) (a : ConvertAsked) → request_of call ≡ Some (Convert a) → tool_called call ≡ Some tools.Convert
+tool_of_convert call a is = tool_asked call (Convert a) is
 
 -- ---- what is told
 
@@ -95,4 +98,9 @@ told_locate call a os cause is =
 pub told_updatedb : (call : CallMade) (a : UpdatedbAsked) (cause : Cause) → request_of call ≡ Some (Updatedb a) → cause_message (speaker (Some tools.Updatedb)) (update_subject a.root cause) cause ≡ told call [] cause
 told_updatedb call a cause is =
     ap (λ (t : Option Tool). cause_message (speaker t) (update_subject a.root cause) cause) (sym (tool_of_updatedb call a is))
+    ∙ sym (ap (λ (r : Option Asked). messages_of r [] ++ cause_message (speaker (tool_called call)) (subject_of r cause) cause) is)
+
+pub told_convert : (call : CallMade) (a : ConvertAsked) (cause : Cause) → request_of call ≡ Some (Convert a) → cause_message (speaker (Some tools.Convert)) a.input cause ≡ told call [] cause
+told_convert call a cause is =
+    ap (λ (t : Option Tool). cause_message (speaker t) a.input cause) (sym (tool_of_convert call a is))
     ∙ sym (ap (λ (r : Option Asked). messages_of r [] ++ cause_message (speaker (tool_called call)) (subject_of r cause) cause) is)

@@ -6,6 +6,7 @@ use Rattle.tool_words.specs.Values.{◌>>=◌}
 use Rattle.tool_words.specs.Tools.{speaker, tool_of}
 use Rattle.database_update.specs.SettingsFiles.{name_of}
 use Rattle.database_update.specs.declared.settings_file.SettingsFile.TheVariants.{Configuration, Mounts}
+use Rattle.locate_tools.specs.declared.answer.NeededFile.TheVariants.{Settings}
 use Rattle.locate_tools.specs.declared.answer.Cause.{Cause}
 use Rattle.locate_tools.specs.declared.answer.Cause.TheVariants as causes
 use Rattle.tool_words.specs.declared.tool.Tool.{Tool}
@@ -25,11 +26,11 @@ tool_called call = tool_of call.words
 abbrev pub speaker_of : CallMade → List ℕ
 speaker_of call = speaker (tool_called call)
 
--- the work of a tool that is built: `convert` and `exercise` are not built yet
+-- the work of a tool that is built: `exercise` is not built yet
 abbrev pub built : Asked → Option Asked
 built (Updatedb settings) = Some (Updatedb settings)
 built (Locate settings) = Some (Locate settings)
-built (Convert settings) = None
+built (Convert settings) = Some (Convert settings)
 built (Exercise settings) = None
 
 -- what a run is to do; None is bad usage
@@ -40,14 +41,14 @@ request_of call = asked call.words call.locate_path >>= built
 abbrev pub update_subject : List ℕ → Cause → List ℕ
 update_subject root (causes.BadConf line fault) = name_of Configuration
 update_subject root (causes.BadMount line fault) = name_of Mounts
-update_subject root (causes.ReadFault file) = name_of file
+update_subject root (causes.ReadFault (Settings file)) = name_of file
 update_subject root causes.RootMissing = root
 update_subject root cause = []
 
--- the name that the message of a cause speaks of, where it speaks of one
+-- the name that the message of a cause speaks of, where it speaks of one: of `convert` it is the input's
 abbrev pub subject_of : Option Asked → Cause → List ℕ
 subject_of None cause = []
 subject_of (Some (Updatedb settings)) cause = update_subject settings.root cause
 subject_of (Some (Locate settings)) cause = []
-subject_of (Some (Convert settings)) cause = []
+subject_of (Some (Convert settings)) cause = settings.input
 subject_of (Some (Exercise settings)) cause = []

@@ -1,17 +1,19 @@
 -- What a run does.
-use Rattle.std.specs.Prelude.{◌≡◌, ◌≤◌, ◌⊎◌, [], IsSome, Option, Some, None}
+use Rattle.std.specs.Prelude.{◌≡◌, ◌≢◌, ◌≤◌, ◌⊎◌, [], IsSome, Option, Some, None}
 use Rattle.std.specs.Io.KnownBytes.{Appends}
 use Rattle.path_order.specs.Stamp.{Moment}
 use Rattle.loc_outside.specs.Causes.{Rose}
 use Rattle.loc_outside.specs.Outside.{AppendsPart}
 use Rattle.loc_outside.specs.Snapshot.{Snapshot}
 use Rattle.tool_words.specs.Asked.{Asked, Updatedb, Locate, Convert, Exercise}
+use Rattle.tool_words.specs.Convert.{ConvertAsked}
 use Rattle.tool_words.specs.Locate.{LocateAsked}
 use Rattle.tool_words.specs.Updatedb.{UpdatedbAsked}
 use Rattle.locate_tools.specs.declared.answer.Cause.{Cause}
 use Rattle.locate_tools.specs.declared.answer.Cause.TheVariants as causes
 use Rattle.locate_tools.specs.declared.answer.Ending.{Ending}
 use Rattle.locate_tools.specs.Calls.{CallMade, request_of, tool_called}
+use Rattle.locate_tools.specs.ConvertRun.{ConvertRun, around_in as input_and_output}
 use Rattle.locate_tools.specs.LocateExact.{databases_of}
 use Rattle.locate_tools.specs.LocateRun.{LocateDoes}
 use Rattle.locate_tools.specs.RegexesAsked.{refusal_of}
@@ -53,12 +55,18 @@ pub record RunsUpdatedb (asked : UpdatedbAsked) (now : Moment) (before : Snapsho
   pub accepted : ending.cause ≡ causes.Usage → ⊥
   pub outcomes : ending.outcomes ≡ []
 
+-- They ask for a file in another format.
+pub record RunsConvert (asked : ConvertAsked) (before : Snapshot) (ending : Ending) (after : Snapshot) : Type 0 where
+  pub run : ConvertRun asked (input_and_output before) (input_and_output after) ending.cause
+  pub accepted : ending.cause ≡ causes.Usage → ⊥
+  pub outcomes : ending.outcomes ≡ []
+
 abbrev pub Works : Option Asked → Moment → Snapshot → Ending → Snapshot → Type 0
 Works None now before ending after = Refuses ending
 Works (Some (Locate asked)) now before ending after = RunsLocate asked before ending after
 Works (Some (Updatedb asked)) now before ending after = RunsUpdatedb asked now before ending after
--- No words ask for these yet (`built`).
-Works (Some (Convert asked)) now before ending after = Refuses ending
+Works (Some (Convert asked)) now before ending after = RunsConvert asked before ending after
+-- No words ask for this yet (`built`).
 Works (Some (Exercise asked)) now before ending after = Refuses ending
 
 -- What a run does: the work that its words ask for. Its status is that of the tool and the cause; standard error takes the
@@ -84,10 +92,17 @@ pub record LeavesLocate (asked : LocateAsked) (cause : Cause) (reader tree gate 
   pub refused : IsSome (refusal_of asked) → reader × gate × out
   pub unasked : databases_of asked ≡ [] → reader × gate
 
+-- `convert` never touches the tree, the gate and standard output, nor the output unless it is done or a write failed.
+pub record LeavesConvert (cause : Cause) (tree gate output out : Type 0) : Type 0 where
+  pub tree_same : tree
+  pub gate_same : gate
+  pub out_same : out
+  pub unwritten : cause ≢ causes.Done → cause ≢ causes.WriteFault → output
+
 -- Which of the reader, the tree, the gate, the output and standard output are just as they were.
 abbrev pub Leaves : Option Asked → Cause → (reader tree gate output out : Type 0) → Type 0
 Leaves None cause reader tree gate output out = reader × tree × gate × output × out
 Leaves (Some (Locate asked)) cause reader tree gate output out = LeavesLocate asked cause reader tree gate output out
 Leaves (Some (Updatedb asked)) cause reader tree gate output out = gate
-Leaves (Some (Convert asked)) cause reader tree gate output out = reader × tree × gate × output × out
+Leaves (Some (Convert asked)) cause reader tree gate output out = LeavesConvert cause tree gate output out
 Leaves (Some (Exercise asked)) cause reader tree gate output out = reader × tree × gate × output × out

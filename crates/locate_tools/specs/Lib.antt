@@ -13,4 +13,5 @@ pub mod Tried
 pub mod Counted
 pub mod LocateRun
 pub mod UpdatedbRun
+pub mod ConvertRun
 pub mod Tasks

@@ -3,6 +3,8 @@ use Rattle.std.specs.Prelude.{ℕ, List, [], ◌∷◌, codes, decimal}
 use Rattle.std.specs.List.{concat}
 use Rattle.byte_feed.specs.declared.damage.DamageCause.{DamageCause}
 use Rattle.byte_feed.specs.declared.damage.DamageCause.TheVariants as damages
+use Rattle.db_convert.specs.declared.format.AdmitCause.{AdmitCause}
+use Rattle.db_convert.specs.declared.format.AdmitCause.TheVariants as admits
 use Rattle.mount_table.specs.declared.fault.MountCause.{MountCause}
 use Rattle.mount_table.specs.declared.fault.MountCause.TheVariants as mounts
 use Rattle.posix_regex.specs.Texts.{text_of as regex_text}
@@ -41,6 +43,11 @@ mount_text mounts.BadPath = codes "bad mount point"
 mount_text mounts.OutOfMemory = codes "out of memory"
 mount_text mounts.LongText = codes "file too long"
 
+-- why a format can't hold a path
+abbrev pub admit_text : AdmitCause → List ℕ
+admit_text admits.Newline = codes "newline in path"
+admit_text admits.NotNormal = codes "not a normal path below the root"
+
 -- ---- lines
 
 -- a line about the run
@@ -63,6 +70,10 @@ damage_line tool name place text =
 -- a line about a byte of an expression, whose place is given by its digits
 unfoldable pub regex_line : List ℕ → List ℕ → List ℕ → List ℕ
 regex_line tool text place = concat (tool ∷ codes ": bad regular expression: " ∷ text ∷ codes " at byte " ∷ place ∷ codes "\n" ∷ [])
+
+-- a line about a path, whose number is given by its digits
+unfoldable pub path_line : List ℕ → List ℕ → List ℕ → List ℕ
+path_line tool number text = concat (tool ∷ codes ": path " ∷ number ∷ codes ": " ∷ text ∷ codes "\n" ∷ [])
 
 -- ---- what is told
 
@@ -89,6 +100,11 @@ cause_message tool subject (causes.BadMount number fault) = numbered_line tool s
 cause_message tool subject (causes.BadRegex pattern place fault) = regex_line tool (regex_text fault) (decimal place)
 cause_message tool subject causes.RootMissing = line_about tool subject (codes "no such directory")
 cause_message tool subject (causes.ReadFault file) = line_about tool subject (codes "read fault")
+cause_message tool subject causes.Missing = line_about tool subject (codes "no such database")
+cause_message tool subject causes.NotADatabase = line_about tool subject (codes "not a database")
+cause_message tool subject (causes.Damage damage) = damage_line tool subject (decimal damage.place) (text_of damage.cause)
+cause_message tool subject causes.TooLarge = line_about tool subject (codes "too large")
+cause_message tool subject (causes.NotAdmitted index fault) = path_line tool (decimal index) (admit_text fault)
 cause_message tool subject causes.WriteFault = line tool (codes "write fault")
 cause_message tool subject causes.OutOfMemory = line tool (codes "out of memory")
 cause_message tool subject causes.TreeFault = line tool (codes "tree fault")

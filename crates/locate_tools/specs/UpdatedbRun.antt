@@ -7,6 +7,7 @@ use Rattle.tree_scan.specs.declared.rules.Counts.{Counts}
 use Rattle.database_update.specs.Updates.{Around, Same, UpdateDoes}
 use Rattle.database_update.specs.declared.fault.UpdateFault.{UpdateFault}
 use Rattle.database_update.specs.declared.fault.UpdateFault.TheVariants as faults
+use Rattle.locate_tools.specs.declared.answer.NeededFile.TheVariants.{Settings}
 use Rattle.locate_tools.specs.declared.answer.Cause.{Cause}
 use Rattle.locate_tools.specs.declared.answer.Cause.TheVariants as causes
 
@@ -14,7 +15,7 @@ use Rattle.locate_tools.specs.declared.answer.Cause.TheVariants as causes
 abbrev pub cause_of : UpdateFault → Cause
 cause_of (faults.BadConf line cause) = causes.BadConf line cause
 cause_of (faults.BadMount line cause) = causes.BadMount line cause
-cause_of (faults.ReadFault file) = causes.ReadFault file
+cause_of (faults.ReadFault file) = causes.ReadFault (Settings file)
 cause_of faults.RootMissing = causes.RootMissing
 cause_of faults.TreeFault = causes.TreeFault
 cause_of faults.WriteFault = causes.WriteFault

@@ -2,13 +2,24 @@
 ghost use Rattle.std.specs.Prelude.{◌≡◌};
 ghost use Rattle.locate_tools.specs.Statuses.{status_of, write_status as status_of_write_fault};
 
+use byte_feed::Damage;
 use database_update::SettingsFile;
+use db_convert::AdmitCause;
 use locate_engine::Outcome;
 use mount_table::MountCause;
 use posix_regex::RegexCause;
 use std::marker::Model;
 use tool_words::Tool;
 use updatedb_conf::ConfCause;
+
+/// A file that a tool needs.
+#[derive(Clone, Copy, Debug, PartialEq, Eq)]
+pub enum NeededFile {
+    /// A settings file of `updatedb`.
+    Settings(SettingsFile),
+    /// The input of `convert`.
+    Input,
+}
 
 /// Why a run ended as it did.
 #[derive(Clone, Copy, Debug, PartialEq, Eq)]
@@ -37,8 +48,21 @@ pub enum Cause {
     },
     /// There is no directory that is to be scanned.
     RootMissing,
-    /// This file, which `updatedb` needs, could not be opened or read.
-    ReadFault(SettingsFile),
+    /// This file could not be opened or read.
+    ReadFault(NeededFile),
+    /// `convert`: there is no input.
+    Missing,
+    /// `convert`: the input is no database.
+    NotADatabase,
+    /// `convert`: the input is damaged.
+    Damage(Damage),
+    /// `convert`: the input has 2^40 bytes or more.
+    TooLarge,
+    /// `convert`: the format of the output can't hold the path of this number, counted from 0.
+    NotAdmitted {
+        index: u64,
+        fault: AdmitCause,
+    },
     /// A write to the output or to standard output failed.
     WriteFault,
     OutOfMemory,
@@ -69,7 +93,8 @@ impl Cause {
             Cause::Done => 0,
             Cause::NoMatch | Cause::Usage | Cause::RootMissing => 1,
             Cause::BadConf { .. } | Cause::BadMount { .. } | Cause::BadRegex { .. } => 1,
-            Cause::ReadFault(_) => 1,
+            Cause::ReadFault(_) | Cause::Missing | Cause::NotADatabase => 1,
+            Cause::Damage(_) | Cause::TooLarge | Cause::NotAdmitted { .. } => 1,
             Cause::WriteFault => write_status(tool),
             Cause::OutOfMemory => 3,
             Cause::TreeFault => 4,

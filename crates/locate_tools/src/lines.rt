@@ -4,7 +4,7 @@ ghost use Rattle.std.specs.List.{flat_map};
 ghost use Rattle.std.specs.Io.KnownBytes.{Appends};
 ghost use Rattle.loc_outside.specs.Causes.{HasCause};
 ghost use Rattle.loc_outside.specs.Outside.{AppendsPart};
-ghost use Rattle.locate_tools.specs.Messages.{damage_line, line, line_about, numbered_line, regex_line, text_of};
+ghost use Rattle.locate_tools.specs.Messages.{damage_line, line, line_about, numbered_line, path_line, regex_line, text_of};
 
 use byte_feed::{Damage, DamageCause};
 use itoa::Buffer;
@@ -199,5 +199,41 @@ fn tell_at_byte<E: Sink>(err: &mut E, tool: &str, text: &[u8], place: &[u8]) -> 
             place,
             b"\n",
         ],
+    )
+}
+
+/// Writes a line about the path of this number.
+pub(crate) fn tell_path<E: Sink>(
+    err: &mut E,
+    tool: &str,
+    number: u64,
+    text: &[u8],
+) -> Result<(), Failed>
+    ensures ok { OnOk result (Appends (E.taken err.old) (E.taken err.new) (path_line tool.now (decimal number) text.now)) }
+    ensures part { OnErr result (AppendsPart (E.taken err.old) (E.taken err.new) (path_line tool.now (decimal number) text.now)) }
+    ensures cause { HasCause (E.faults err.old) (E.faults err.new) result }
+    ensures kept { E.kept err.old err.new }
+{
+    let mut digits = Buffer::new();
+    let number = digits.format(number).as_bytes();
+    tell_numbered_path(err, tool, number, text)
+}
+
+/// Writes a line about a path whose number is given by its digits.
+#[tactic(auto, unfolding(crate::specs::Messages::path_line))]
+fn tell_numbered_path<E: Sink>(
+    err: &mut E,
+    tool: &str,
+    number: &[u8],
+    text: &[u8],
+) -> Result<(), Failed>
+    ensures ok { OnOk result (Appends (E.taken err.old) (E.taken err.new) (path_line tool.now number.now text.now)) }
+    ensures part { OnErr result (AppendsPart (E.taken err.old) (E.taken err.new) (path_line tool.now number.now text.now)) }
+    ensures cause { HasCause (E.faults err.old) (E.faults err.new) result }
+    ensures kept { E.kept err.old err.new }
+{
+    put_pieces(
+        err,
+        &[tool.as_bytes(), b": path ", number, b": ", text, b"\n"],
     )
 }

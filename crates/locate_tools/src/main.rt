@@ -1,8 +1,11 @@
-//! File-name database tools: `updatedb` and `locate`.
+//! File-name database tools: `updatedb`, `locate` and `convert`.
 #![tactic(auto)]
 
 mod answer;
 mod call;
+mod convert_run;
+#[cfg(test)]
+mod convert_tests;
 #[cfg(test)]
 mod damage_tests;
 mod databases;

@@ -4,11 +4,14 @@ ghost use Rattle.std.specs.Io.KnownBytes.{Appends};
 ghost use Rattle.loc_outside.specs.Causes.{HasCause};
 ghost use Rattle.loc_outside.specs.Outside.{AppendsPart};
 ghost use Rattle.locate_tools.specs.Calls.{update_subject as subject_of_update};
-ghost use Rattle.locate_tools.specs.Messages.{cause_message, mount_text as text_of_mount, outcome_message};
+ghost use Rattle.locate_tools.specs.Messages.{admit_text as text_of_admission, cause_message, mount_text as text_of_mount, outcome_message};
 
-use crate::answer::Cause;
-use crate::lines::{put_pieces, tell, tell_about, tell_damage, tell_numbered, tell_regex};
+use crate::answer::{Cause, NeededFile};
+use crate::lines::{
+    put_pieces, tell, tell_about, tell_damage, tell_numbered, tell_path, tell_regex,
+};
 use database_update::SettingsFile;
+use db_convert::AdmitCause;
 use loc_outside::{Failed, Sink};
 use locate_engine::Outcome;
 use mount_table::MountCause;
@@ -25,6 +28,16 @@ fn mount_text(cause: MountCause) -> &'static [u8]
         MountCause::BadPath => b"bad mount point",
         MountCause::OutOfMemory => b"out of memory",
         MountCause::LongText => b"file too long",
+    }
+}
+
+/// Why a format can't hold a path.
+fn admit_text(cause: AdmitCause) -> &'static [u8]
+    ensures { result.now ≡ text_of_admission cause }
+{
+    match cause {
+        AdmitCause::Newline => b"newline in path",
+        AdmitCause::NotNormal => b"not a normal path below the root",
     }
 }
 
@@ -58,7 +71,7 @@ pub fn update_subject(root: &[u8], cause: Cause) -> &[u8]
     match cause {
         Cause::BadConf { .. } => SettingsFile::Configuration.name().as_bytes(),
         Cause::BadMount { .. } => SettingsFile::Mounts.name().as_bytes(),
-        Cause::ReadFault(file) => file.name().as_bytes(),
+        Cause::ReadFault(NeededFile::Settings(file)) => file.name().as_bytes(),
         Cause::RootMissing => root,
         _ => b"",
     }
@@ -91,6 +104,11 @@ pub fn tell_cause<E: Sink>(
         } => tell_regex(err, tool, cause.text(), place),
         Cause::RootMissing => tell_about(err, tool, subject, b"no such directory"),
         Cause::ReadFault(_) => tell_about(err, tool, subject, b"read fault"),
+        Cause::Missing => tell_about(err, tool, subject, b"no such database"),
+        Cause::NotADatabase => tell_about(err, tool, subject, b"not a database"),
+        Cause::Damage(damage) => tell_damage(err, tool, subject, damage),
+        Cause::TooLarge => tell_about(err, tool, subject, b"too large"),
+        Cause::NotAdmitted { index, fault } => tell_path(err, tool, index, admit_text(fault)),
         Cause::WriteFault => tell(err, tool, b"write fault"),
         Cause::OutOfMemory => tell(err, tool, b"out of memory"),
         Cause::TreeFault => tell(err, tool, b"tree fault"),

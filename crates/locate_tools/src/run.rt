@@ -1,12 +1,14 @@
 //! The run of a call.
-ghost use Rattle.std.specs.Prelude.{◌≡◌, ◌≤◌, ◌++◌, [], IsSome, Some};
+ghost use Rattle.std.specs.Prelude.{◌≡◌, ◌≢◌, ◌≤◌, ◌++◌, [], IsSome, Some};
 ghost use Rattle.std.specs.Io.KnownBytes.{Appends};
 ghost use Rattle.loc_outside.specs.Causes.{Rose};
 ghost use Rattle.loc_outside.specs.Outside.{AppendsPart};
+ghost use Rattle.tool_words.specs.ConvertSeen.{seen as convert_seen};
 ghost use Rattle.tool_words.specs.LocateSeen.{seen as locate_seen};
 ghost use Rattle.tool_words.specs.UpdatedbSeen.{seen as updatedb_seen};
 ghost use Rattle.tool_words.specs.Tools.{speaker as speaker_of_tool};
 ghost use Rattle.locate_tools.specs.Calls.{request_of, update_subject as subject_of_update};
+ghost use Rattle.locate_tools.specs.ConvertRun.{ConvertRun};
 ghost use Rattle.locate_tools.specs.Does.{Does, Leaves};
 ghost use Rattle.locate_tools.specs.LocateExact.{databases_of};
 ghost use Rattle.locate_tools.specs.Messages.{cause_message};
@@ -18,6 +20,7 @@ ghost use Rattle.locate_tools.specs.UpdatedbRun.{UpdatedbRun};
 
 use crate::answer::{Cause, Ending, Outcomes};
 use crate::call::Call;
+use crate::convert_run::convert;
 use crate::locate_run::locate;
 use crate::messages::update_subject;
 use crate::task::Task;
@@ -28,7 +31,7 @@ use path_order::Stamp;
 use std::alloc::Global;
 use std::marker::Brand;
 use std::sync::ledger::Blank;
-use tool_words::{LocateSettings, Tool, UpdatedbSettings, WordsFault, speaker};
+use tool_words::{ConvertSettings, LocateSettings, Tool, UpdatedbSettings, WordsFault, speaker};
 
 /// The ending of a run without databases, of which nothing was told yet. Its cause is told.
 fn ended<E: Sink>(
@@ -154,11 +157,44 @@ fn run_updatedb<R: Reader, T: Tree, O: Output, P: BufferedSink, E: Sink>(
     )
 }
 
+/// The run of `convert`.
+fn run_convert<R: Reader, O: Output, E: Sink>(
+    alloc: Global,
+    asked: &ConvertSettings<'_>,
+    reader: &mut R,
+    output: &mut O,
+    err: &mut E,
+) -> Ending
+    ensures status { result.status ≡ status_of (Some Tool.Convert) result.cause }
+    ensures usage { result.cause ≡ Cause.Usage → ⊥ }
+    ensures outcomes { result.outcomes ≡ [] }
+    ensures run { ConvertRun (convert_seen asked.now)
+        (record { files = R.files reader.old; given = R.given reader.old; reads_failed = R.faults reader.old; held = O.held output.old; begins = O.begins output.old; output_failed = O.faults output.old })
+        (record { files = R.files reader.new; given = R.given reader.new; reads_failed = R.faults reader.new; held = O.held output.new; begins = O.begins output.new; output_failed = O.faults output.new })
+        result.cause }
+    ensures unwritten { result.cause ≢ Cause.Done → result.cause ≢ Cause.WriteFault → output.new ≡ output.old }
+    ensures told { (Rose (E.faults err.old) (E.faults err.new) → ⊥) → Appends (E.taken err.old) (E.taken err.new) (cause_message (speaker_of_tool (Some Tool.Convert)) asked.now.input.now result.cause) }
+    ensures told_part { AppendsPart (E.taken err.old) (E.taken err.new) (cause_message (speaker_of_tool (Some Tool.Convert)) asked.now.input.now result.cause) }
+    ensures files { R.files reader.new ≡ R.files reader.old }
+    ensures err_kept { E.kept err.old err.new }
+    ensures err_later { E.faults err.old ≤ E.faults err.new }
+{
+    let cause = convert(alloc, asked, reader, output);
+    ended(
+        alloc,
+        err,
+        Some(Tool::Convert),
+        asked.input.as_bytes(),
+        cause,
+    )
+}
+
 /// Does what the words ask for. `updatedb` stores a complete scan of a tree under the name of its output; on any cause
 /// other than `Done` the stored files are unchanged. `locate` prints the paths of its databases that match, or writes their
 /// statistics, and, unless it is told to be quiet, reports on `err` each database that is missing, no database, damaged, too
 /// large or failed; all its memory is taken before the first is opened. What was written to `out` is passed on after each
-/// database, and before a message about it. A cause other than `Done` and `NoMatch` is reported on `err`. A failed write to
+/// database, and before a message about it. `convert` stores the paths of its input in another format under the name of its
+/// output, which may be the same; on any cause other than `Done` the stored files are unchanged. A cause other than `Done` and `NoMatch` is reported on `err`. A failed write to
 /// `err` does not affect the result; nothing more is written there.
 pub fn run<R: Reader, T: Tree, G: Gate, O: Output, P: BufferedSink, E: Sink>(
     alloc: Global,
@@ -239,5 +275,6 @@ pub fn run<R: Reader, T: Tree, G: Gate, O: Output, P: BufferedSink, E: Sink>(
             out,
             err,
         ),
+        Task::Convert(asked) => run_convert(alloc, &asked, reader, output, err),
     }
 }

@@ -219,7 +219,7 @@ locate -q -d /none a>1 N||
 locate -d /x:/cut:/db /a/>0 MDW|/a/z,/a/z,|locate: /x: no such database,locate: /cut: damaged at byte 122: cut short,
 find a>1 ||locate_tools: bad usage,
 >1 ||locate_tools: bad usage,
-convert --from list --to list0 /in /out>1 ||convert: bad usage,
+convert --to list /none /out>1 ||convert: /none: not a database,
 exercise 1 0>1 ||exercise: bad usage,";
     assert!(rt; plain_rows_hold(rt.alloc(), rows)?);
     Ok(())

@@ -3,7 +3,7 @@ ghost use Rattle.std.specs.Prelude.{◌≡◌};
 ghost use Rattle.tool_words.specs.UpdatedbSeen.{seen};
 ghost use Rattle.locate_tools.specs.UpdatedbRun.{UpdatedbRun, cause_of as cause_of_fault};
 
-use crate::answer::Cause;
+use crate::answer::{Cause, NeededFile};
 use database_update::{UpdateFault, update};
 use loc_outside::{BufferedSink, Output, Reader, Tree};
 use path_order::Stamp;
@@ -17,7 +17,7 @@ fn cause_of(fault: UpdateFault) -> Cause
     match fault {
         UpdateFault::BadConf { line, cause } => Cause::BadConf { line, fault: cause },
         UpdateFault::BadMount { line, cause } => Cause::BadMount { line, fault: cause },
-        UpdateFault::ReadFault(file) => Cause::ReadFault(file),
+        UpdateFault::ReadFault(file) => Cause::ReadFault(NeededFile::Settings(file)),
         UpdateFault::RootMissing => Cause::RootMissing,
         UpdateFault::TreeFault => Cause::TreeFault,
         UpdateFault::WriteFault => Cause::WriteFault,

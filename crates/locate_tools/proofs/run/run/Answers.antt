@@ -1,14 +1,15 @@
 use Rattle.std.specs.Prelude.{Err}
 use Rattle.std.proofs.Common.{[], Option, refl, sym, ap, ◌∙◌}
+use Rattle.tool_words.specs.ConvertSeen.{seen as convert_seen}
 use Rattle.tool_words.specs.LocateSeen.{seen as locate_seen}
 use Rattle.tool_words.specs.UpdatedbSeen.{seen as updatedb_seen}
 use Rattle.tool_words.specs.declared.tool.Tool.{Tool}
 use Rattle.locate_tools.specs.Calls.{tool_called}
 use Rattle.locate_tools.specs.Statuses.{status_of}
 use Rattle.locate_tools.specs.declared.answer.Cause.TheVariants as causes
-use Rattle.locate_tools.proofs.Doing.{does_by, leaves_all, leaves_locate, leaves_updatedb, told_by, works_locate, works_memory, works_refused, works_updatedb}
+use Rattle.locate_tools.proofs.Doing.{does_by, leaves_all, leaves_convert, leaves_locate, leaves_updatedb, told_by, works_convert, works_locate, works_memory, works_refused, works_updatedb}
 use Rattle.locate_tools.proofs.Runs.{does_pass_on}
-use Rattle.locate_tools.proofs.ToldOf.{told_locate, told_memory, told_refused, told_updatedb, tool_of_locate, tool_of_updatedb}
+use Rattle.locate_tools.proofs.ToldOf.{told_convert, told_locate, told_memory, told_refused, told_updatedb, tool_of_convert, tool_of_locate, tool_of_updatedb}
 use Rattle.locate_tools.proofs.run.run.Goals as goal
 
 pub returns-in-Err-Usage-clause-does : goal.returns-in-Err-Usage-clause-does
@@ -23,7 +24,7 @@ returns-in-Err-Usage-clause-does g c =
 pub returns-in-Err-OutOfMemory-clause-does : goal.returns-in-Err-OutOfMemory-clause-does
 returns-in-Err-OutOfMemory-clause-does g c =
     let said = c.ended-in-Err-OutOfMemory.ensures in
-    does_by c.args.call.now _ c.ended-in-Err-OutOfMemory.result _ _ (works_memory _ _ _ _ _ said.cause said.outcomes refl refl)
+    does_by c.args.call.now _ c.ended-in-Err-OutOfMemory.result _ _ (works_memory _ _ _ _ _ said.cause said.outcomes refl refl refl)
     (said.status ∙ sym (ap (status_of (tool_called c.args.call.now)) said.cause))
     (told_memory c.args.call.now c.tool-in-Err-OutOfMemory.result c.tool-in-Err-OutOfMemory.ensures ∙ told_by c.args.call.now [] c.ended-in-Err-OutOfMemory.result.outcomes causes.OutOfMemory c.ended-in-Err-OutOfMemory.result.cause said.outcomes said.cause)
     said.told said.told_part (λ sound out. out) refl said.err_later
@@ -62,3 +63,18 @@ pub returns-in-Updatedb-clause-leaves : goal.returns-in-Updatedb-clause-leaves
 returns-in-Updatedb-clause-leaves g c =
     let asks = rw c.in-Updatedb.is at c.in-Ok.ensures.accepted in
     leaves_updatedb _ (updatedb_seen c.in-Updatedb.asked) _ _ _ _ _ _ asks refl
+
+pub returns-in-Convert-clause-does : goal.returns-in-Convert-clause-does
+returns-in-Convert-clause-does g c =
+    let said = c.run_convert.ensures in
+    let asks = rw c.in-Convert.is at c.in-Ok.ensures.accepted in
+    does_by c.args.call.now _ c.run_convert.result _ _
+    (works_convert _ (convert_seen c.in-Convert.asked) _ _ _ _ asks (record { run = said.run; accepted = said.usage; outcomes = said.outcomes }))
+    (said.status ∙ ap (λ (t : Option Tool). status_of t c.run_convert.result.cause) (sym (tool_of_convert _ _ asks)))
+    (told_convert _ _ c.run_convert.result.cause asks ∙ told_by c.args.call.now _ c.run_convert.result.outcomes _ c.run_convert.result.cause said.outcomes refl) said.told said.told_part (λ sound out. out) said.files said.err_later
+
+pub returns-in-Convert-clause-leaves : goal.returns-in-Convert-clause-leaves
+returns-in-Convert-clause-leaves g c =
+    let said = c.run_convert.ensures in
+    let asks = rw c.in-Convert.is at c.in-Ok.ensures.accepted in
+    leaves_convert _ (convert_seen c.in-Convert.asked) _ _ _ _ _ _ asks (record { tree_same = refl; gate_same = refl; out_same = refl; unwritten = said.unwritten })

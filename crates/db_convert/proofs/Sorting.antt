@@ -1,0 +1,92 @@
+-- A sorted list without repeats.
+use Rattle.std.proofs.Common.{◌≡◌, ℕ, zero, suc, ◌+◌, ◌<◌, Bool, true, false, cond, List, [], ◌∷◌, ◌++◌, length, get_or, map, refl, sym, ◌∙◌, ap, subst, arith, IsPermutation, Ordering, Less, is_lt, Contains}
+use Rattle.std.specs.Prelude.{◌&&◌}
+use Rattle.std.proofs.lemmas.Cmp.{eq_by_cmp_equiv}
+use Rattle.std.proofs.lemmas.List.{length-map, get_or-map}
+use Rattle.std.proofs.lemmas.List.FromFn.{length-range_with_len, get_or-range_with_len}
+use Rattle.std.proofs.lemmas.List.Kept.{Contains-dedup, Contains-from_dedup, IsStrictlySortedBy-dedup}
+use Rattle.std.proofs.lemmas.List.Sorted.{list_any-IsPermutation}
+use Rattle.std.proofs.lemmas.Map.Views.{list_any-from_Contains, Contains-from_any}
+use Rattle.std.specs.Cmp.{IsTotalOrder, both_ways, Equal-is}
+use Rattle.std.specs.FinMap.{IsAntisymmetric}
+use Rattle.std.specs.FinMap.Entries.{below_all, is_sorted}
+use Rattle.std.specs.List.{All, AllByRecursion, dedup_from, dedup, list_any, range_with_len}
+use Rattle.std.specs.List.Sorted.{IsSorted, IsSortedByKey, IsStrictlySortedBy}
+use Rattle.std.specs.Ordering.{eq_by_cmp}
+use Rattle.db_convert.specs.Blocks.{sorted_unique}
+use Rattle.db_convert.proofs.Directories.{marked, Sorted, among, sorted_is}
+
+-- ---- what elements stand for
+
+module _ {A B : Type 0} (f : A → B) (same : B → B → Bool) where
+  map-dedup_from : (kept : A) (xs : List A) → map f (dedup_from (λ x y. same (f x) (f y)) kept xs) ≡ dedup_from same (f kept) (map f xs)
+  map-dedup_from kept [] = refl
+  map-dedup_from kept (x ∷ xs) = by (same (f x) (f kept)) (map-dedup_from kept xs) (map-dedup_from x xs)
+    where
+      by : (b : Bool) → map f (dedup_from (λ x y. same (f x) (f y)) kept xs) ≡ dedup_from same (f kept) (map f xs) → map f (dedup_from (λ x y. same (f x) (f y)) x xs) ≡ dedup_from same (f x) (map f xs)
+          → map f (cond b (dedup_from (λ x y. same (f x) (f y)) kept xs) (kept ∷ dedup_from (λ x y. same (f x) (f y)) x xs)) ≡ cond b (dedup_from same (f kept) (map f xs)) (f kept ∷ dedup_from same (f x) (map f xs))
+      by true first others = first
+      by false first others = ap (λ (rest : List B). f kept ∷ rest) others
+
+  pub map-dedup : (xs : List A) → map f (dedup (λ x y. same (f x) (f y)) xs) ≡ dedup same (map f xs)
+  map-dedup [] = refl
+  map-dedup (x ∷ xs) = map-dedup_from x xs
+
+-- what stands in order by a key, its keys stand in order
+pub sorted_keys : {K : Type 0} (R : K → K → Ordering) (f : ℕ → K) (xs : List ℕ) → IsSortedByKey f R xs → IsSorted R (map f xs)
+sorted_keys R f xs up k d low high =
+    let len = length-map xs f in
+    let next : get_or (map f xs) (k + 1) d ≡ f (get_or xs (k + 1) 0) = get_or-map f xs (k + 1) 0 d (omega (arith, high, len)) in
+    let here : get_or (map f xs) k d ≡ f (get_or xs k 0) = get_or-map f xs k 0 d (omega (arith, high, len)) in
+    (λ i. is_lt (R (next i) (here i))) ∙ up k 0 low (omega (arith, high, len))
+
+-- ---- values in order
+
+module _ {K : Type 0} (R : K → K → Ordering) (total : IsTotalOrder R) (apart : IsAntisymmetric R) where
+  below_by : (x : K) (ks : List K) → AllByRecursion (λ y. R x y ≡ Less) ks → below_all R x (marked ks) ≡ true
+  below_by x [] h = refl
+  below_by x (k ∷ ks) h = rw (h.0, below_by x ks h.1) refl
+
+  strictly : (ks : List K) → IsStrictlySortedBy R ks → Sorted R ks
+  unfolding IsStrictlySortedBy
+  strictly [] h = refl
+  strictly (k ∷ ks) h = rw (below_by k ks h.0, strictly ks h.1) refl
+
+  same_values : (xs : List K) (q : K) → among R q (dedup (eq_by_cmp R) xs) ≡ among R q xs
+  same_values xs q =
+      let equal : (x y : K) → eq_by_cmp R x y ≡ true → x ≡ y = λ x y e. apart x y ((Equal-is (R x y)).0 e) in
+      let alike = eq_by_cmp_equiv total in
+      both_ways _ _
+      (λ e. list_any-from_Contains alike q xs (Contains-from_dedup (eq_by_cmp R) xs q (Contains-from_any equal q (dedup (eq_by_cmp R) xs) e)))
+      (λ e. list_any-from_Contains alike q (dedup (eq_by_cmp R) xs) (Contains-dedup alike equal xs q (Contains-from_any equal q xs e)))
+
+  -- values that were sorted, without repeats, are that order of them
+  pub dedup_is : (xs ys : List K) → IsSorted R xs → IsPermutation ys xs → dedup (eq_by_cmp R) xs ≡ sorted_unique R ys
+  dedup_is xs ys up moved =
+      sym (sorted_is R total apart (dedup (eq_by_cmp R) xs) ys (strictly _ (IsStrictlySortedBy-dedup total (λ x y. refl) xs up)) (λ q.
+      same_values xs q ∙ sym (list_any-IsPermutation (eq_by_cmp R q) ys xs moved)))
+
+-- ---- all places of a list
+
+pub each_place : {X : Type 0} {Y : Type 0} (f : X → Y) (d : X) (xs : List X) → map (λ k. f (get_or xs k d)) (range_with_len 0 (length xs)) ≡ map f xs
+each_place {X} f d xs = from 0 xs (λ k. ap (λ (n : ℕ). get_or xs n d) {x = k} {y = 0 + k} (omega arith))
+  where
+    from : (start : ℕ) (ys : List X) → ((k : ℕ) → get_or ys k d ≡ get_or xs (start + k) d) → map (λ k. f (get_or xs k d)) (range_with_len start (length ys)) ≡ map f ys
+    from start [] same = refl
+    from start (y ∷ ys) same =
+        let here : get_or xs start d ≡ y = sym (same 0 ∙ ap (λ (n : ℕ). get_or xs n d) {x = start + 0} {y = start} (omega arith)) in
+        λ i. f (here i) ∷ from (start + 1) ys (λ k.
+        ap (λ (n : ℕ). get_or (y ∷ ys) n d) {x = suc k} {y = k + 1} (omega arith) ∙ same (k + 1) ∙ ap (λ (n : ℕ). get_or xs n d) {x = start + (k + 1)} {y = start + 1 + k} (omega arith)) i
+
+more_from : (start n : ℕ) → range_with_len start n ++ (start + n) ∷ [] ≡ range_with_len start (suc n)
+more_from start zero = ap (λ (k : ℕ). k ∷ []) {x = start + 0} {y = start} (omega arith)
+more_from start (suc n) =
+    ap (λ (k : ℕ). start ∷ range_with_len (start + 1) n ++ k ∷ []) {x = start + suc n} {y = start + 1 + n} (omega arith) ∙ ap (λ (l : List ℕ). start ∷ l) (more_from (start + 1) n)
+
+pub range_more : (n : ℕ) → range_with_len 0 n ++ n ∷ [] ≡ range_with_len 0 (n + 1)
+range_more n = ap (λ (k : ℕ). range_with_len 0 n ++ k ∷ []) {x = n} {y = 0 + n} (omega arith) ∙ more_from 0 n ∙ ap (range_with_len 0) {x = suc n} {y = n + 1} (omega arith)
+
+pub places_within : (n : ℕ) → All (λ k. k < n) (range_with_len 0 n)
+places_within n k d lt =
+    let len = length-range_with_len 0 n in
+    omega (arith, lt, len, get_or-range_with_len 0 n k d (omega (arith, lt, len)))
