@@ -13,7 +13,7 @@ use Rattle.db_convert.specs.declared.fault.ConvertFault.{ConvertFault}
 use Rattle.db_convert.specs.declared.fault.ConvertFault.TheVariants.{Missing, NotADatabase, Damage, ReadFault, TooLarge, NotAdmitted, WriteFault, OutOfMemory}
 use Rattle.db_convert.specs.Admission.{first_refused}
 use Rattle.db_convert.specs.Conversion.{encode}
-use Rattle.db_convert.specs.Converts.{AfterFault, Around, Asked, Bounded, Caused, ConvertDoes, IsAccepted, PendsPart, Required, Stored, WhereTold, admitted_to, is_of_reading, is_refusal, none_or_fault, paths_in, read_found, stored_in, then_admitted, with_file}
+use Rattle.db_convert.specs.Converts.{AfterFault, Around, Asked, Bounded, Caused, ConvertDoes, IsAccepted, PendsPart, Required, Stored, WhereTold, admitted_to, is_of_reading, is_refusal, none_or_fault, paths_in, read_found, size_of, stored_in, then_admitted, with_file}
 use Rattle.db_convert.proofs.ReadBack.{all_back}
 
 abbrev Paths : Type 0
@@ -54,6 +54,7 @@ pub record EndsEarly (asked : Asked) (a a' : Around) (fault : ConvertFault) : Ty
   pub read_fault : fault ≡ ReadFault → Rose a.reads_failed a'.reads_failed
   pub written : fault ≢ WriteFault
   pub given : a'.given ≤ a.given + 2 ^ 40
+  pub once : (files : Files) → a.files ≡ Some files → a'.given ≤ a.given + size_of (get files asked.input)
   pub later : a.reads_failed ≤ a'.reads_failed
   pub output_later : a.output_failed ≤ a'.output_failed
   pub held : a'.held ≡ a.held
@@ -113,18 +114,19 @@ ended_early asked a a' same fault h s = record {
     write_fault = λ e. absurd (h.written e);
   };
   required = required_by asked a a' fault h (which fault);
-  bounded = record { unready = λ files e told is. s; given_most = h.given; reads_later = h.later; output_later = h.output_later };
+  bounded = record { unready = λ files e told is. s; given_most = h.given; read_once = h.once; reads_later = h.later; output_later = h.output_later };
 }
 
 -- the input was not read
 pub not_read : (asked : Asked) (a a' : Around) (fault : ConvertFault) → IsTrue (is_of_reading fault)
     → (fault ≢ OutOfMemory → fault ≢ ReadFault → (files : Files) → a.files ≡ Some files → read_found asked.from (get files asked.input) ≡ Err fault)
-    → (fault ≡ ReadFault → Rose a.reads_failed a'.reads_failed) → a'.given ≤ a.given + 2 ^ 40 → a.reads_failed ≤ a'.reads_failed → a.output_failed ≤ a'.output_failed → a'.held ≡ a.held → a'.begins ≡ a.begins → EndsEarly asked a a' fault
-not_read asked a a' fault reading refused read_fault given later output_later held begins = record {
+    → (fault ≡ ReadFault → Rose a.reads_failed a'.reads_failed) → a'.given ≤ a.given + 2 ^ 40 → ((files : Files) → a.files ≡ Some files → a'.given ≤ a.given + size_of (get files asked.input)) → a.reads_failed ≤ a'.reads_failed → a.output_failed ≤ a'.output_failed → a'.held ≡ a.held → a'.begins ≡ a.begins → EndsEarly asked a a' fault
+not_read asked a a' fault reading refused read_fault given once later output_later held begins = record {
   refused = λ memory read files told. ap (then_admitted asked.to) (refused memory read files told);
   read_fault = read_fault;
   written = no_write fault reading;
   given = given;
+  once = once;
   later = later;
   output_later = output_later;
   held = held;
@@ -138,6 +140,7 @@ pub record WasRead (asked : Asked) (a a' : Around) (paths : List (List ℕ)) : T
   pub read : (files : Files) → a.files ≡ Some files → read_found asked.from (get files asked.input) ≡ Ok paths
   pub readable : All IsPath paths
   pub given : a'.given ≤ a.given + 2 ^ 40
+  pub once : (files : Files) → a.files ≡ Some files → a'.given ≤ a.given + size_of (get files asked.input)
   pub later : a.reads_failed ≤ a'.reads_failed
 
 pub not_admitted : (asked : Asked) (a a' : Around) (paths : List (List ℕ)) (fault : ConvertFault) → WasRead asked a a' paths → (fault ≡ OutOfMemory) ⊎ (admitted_to asked.to paths ≡ Err fault)
@@ -147,6 +150,7 @@ not_admitted asked a a' paths fault w why output_later held begins = record {
   read_fault = λ e. absurd (no_read why e);
   written = no_written why;
   given = w.given;
+  once = w.once;
   later = w.later;
   output_later = output_later;
   held = held;
@@ -199,7 +203,7 @@ not_written asked a a' same paths w none rose later unstored left begins = recor
     refuses = λ files e told is. absurd (not_both _ paths e (converted asked a a' paths w none files told) is);
     complete = λ files ps told is reads outputs. absurd (outputs rose);
   };
-  bounded = record { unready = λ files e told is. absurd (not_both _ paths e (converted asked a a' paths w none files told) is); given_most = w.given; reads_later = w.later; output_later = later };
+  bounded = record { unready = λ files e told is. absurd (not_both _ paths e (converted asked a a' paths w none files told) is); given_most = w.given; read_once = w.once; reads_later = w.later; output_later = later };
 }
 
 pub was_stored : (asked : Asked) (a a' : Around) (same : Type 0) (paths : List (List ℕ)) (count : ℕ) → WasRead asked a a' paths → first_refused asked.to paths ≡ None → a.output_failed ≤ a'.output_failed
@@ -218,5 +222,5 @@ was_stored asked a a' same paths count w none later stored begins counted = reco
     refuses = λ files e told is. absurd (not_both _ paths e (converted asked a a' paths w none files told) is);
     complete = λ files ps told is reads outputs. tt;
   };
-  bounded = record { unready = λ files e told is. absurd (not_both _ paths e (converted asked a a' paths w none files told) is); given_most = w.given; reads_later = w.later; output_later = later };
+  bounded = record { unready = λ files e told is. absurd (not_both _ paths e (converted asked a a' paths w none files told) is); given_most = w.given; read_once = w.once; reads_later = w.later; output_later = later };
 }

@@ -106,6 +106,11 @@ pub record Around : Type 0 where
   pub begins : ℕ
   pub output_failed : ℕ
 
+-- how many bytes a file has, if it is there
+abbrev pub size_of : Option (List ℕ) → ℕ
+size_of None = 0
+size_of (Some file) = length file
+
 -- what is asked for: the format of the input, where it is named, and that of the target, and the names of both
 pub record Asked : Type 0 where
   pub from : Option Format
@@ -126,7 +131,7 @@ abbrev pub IsAccepted : Asked → Around → Type 0
 IsAccepted asked a = (files : Files) → a.files ≡ Some files → IsOk (paths_in files asked.input asked.from asked.to)
 
 -- After Ok: the stored files are those at entry, with the text of all paths of the input under the name of the target; no
--- other name was begun; the paths were counted. Where the text is below the limit it gives the paths back, and ends whole.
+-- other name was begun; the paths were counted. Where the text is below the limit, what `as_read` names is read back from it.
 pub record Stored (asked : Asked) (count : ℕ) (a a' : Around) : Type 0 where
   pub accepted : IsAccepted asked a
   pub stored : WhereTold asked a (λ paths. a'.held ≡ option_map (with_file asked.target (encode asked.to paths)) a.held)
@@ -134,17 +139,17 @@ pub record Stored (asked : Asked) (count : ℕ) (a a' : Around) : Type 0 where
   pub read_back : WhereTold asked a (λ paths. length (encode asked.to paths) < feed.limit → GivesWhole (contents (grammar_of asked.to) (encode asked.to paths)) (as_read asked.to paths))
   pub begun_once : a'.begins ≡ raised a.begins 1
 
--- After a fault the stored files are as they were. Nothing was done to the output before a fault of writing. Where that came
--- of the first call on it, it is as it was; else a first part of the text is pending, and no other name was begun. `same`
--- says that the output is unchanged.
+-- After a fault the stored files are as they were. Only with a fault of writing was anything done to the output: then it holds
+-- what it held, or a first part of the text is pending under the target's name, and one name was begun at most. `same` says
+-- that the output is unchanged.
 pub record AfterFault (asked : Asked) (a a' : Around) (same : Type 0) (fault : ConvertFault) : Type 0 where
   pub unstored : stored_in a'.held ≡ stored_in a.held
   pub early : fault ≢ WriteFault → same
   pub left : WhereTold asked a (λ paths. (a'.held ≡ a.held) ⊎ PendsPart asked.target (encode asked.to paths) a.held a'.held)
   pub begins : (a'.begins ≡ a.begins) ⊎ (a'.begins ≡ raised a.begins 1)
 
--- When each fault comes: a refusal where the input is refused so; a fault of reading or writing where such a call failed, and
--- that of writing only where the input was accepted.
+-- Each fault comes only so: a refusal where the input is refused so; a fault of reading or writing where such a call failed, and
+-- that of writing only where the input was accepted. For lack of memory nothing is said.
 pub record Caused (asked : Asked) (a a' : Around) (fault : ConvertFault) : Type 0 where
   pub refused : IsTrue (is_refusal fault) → (files : Files) → a.files ≡ Some files → paths_in files asked.input asked.from asked.to ≡ Err fault
   pub read_fault : fault ≡ ReadFault → Rose a.reads_failed a'.reads_failed
@@ -156,11 +161,12 @@ pub record Required (asked : Asked) (a a' : Around) (result : Result ℕ Convert
   pub refuses : WhereRefused asked a (λ fault. IsErrAnd result (λ e. (e ≡ fault) ⊎ ((e ≡ OutOfMemory) ⊎ (e ≡ ReadFault))))
   pub complete : WhereTold asked a (λ paths. (Rose a.reads_failed a'.reads_failed → ⊥) → (Rose a.output_failed a'.output_failed → ⊥) → IsOkUnless result OutOfMemory)
 
--- What holds on every answer: that nothing was done to the output where the input is refused, how much was read, and that no
--- count of faults fell.
+-- What holds on every answer: that nothing was done to the output where the input is refused, that no more was read than the
+-- input once, and that no count of faults fell.
 pub record Bounded (asked : Asked) (a a' : Around) (same : Type 0) : Type 0 where
   pub unready : WhereRefused asked a (λ fault. same)
   pub given_most : a'.given ≤ a.given + 2 ^ 40
+  pub read_once : (files : Files) → a.files ≡ Some files → a'.given ≤ a.given + size_of (get files asked.input)
   pub reads_later : a.reads_failed ≤ a'.reads_failed
   pub output_later : a.output_failed ≤ a'.output_failed
 

@@ -6,7 +6,7 @@ ghost use Rattle.loc_outside.specs.Files.{Files};
 ghost use Rattle.byte_feed.specs.Paths.{IsPath};
 ghost use Rattle.db_convert.specs.Admission.{first_refused as refused_first};
 ghost use Rattle.db_convert.specs.Conversion.{encode};
-ghost use Rattle.db_convert.specs.Converts.{ConvertDoes, PendsPart, admitted_to, is_of_reading, read_found, stored_in, with_file};
+ghost use Rattle.db_convert.specs.Converts.{ConvertDoes, PendsPart, admitted_to, is_of_reading, read_found, size_of, stored_in, with_file};
 ghost use Rattle.db_convert.specs.Plans.{IsMade, format_of};
 
 use crate::admission::first_refused;
@@ -31,6 +31,7 @@ fn read_input<R: Reader>(
     ensures refused { IfErr result (λ fault. fault ≢ ConvertFault.OutOfMemory → fault ≢ ConvertFault.ReadFault → (files : Files) → R.files reader.old ≡ Some files → read_found from (get files input.now) ≡ Err fault) }
     ensures read_fault { IfErr result (λ fault. fault ≡ ConvertFault.ReadFault → Rose (R.faults reader.old) (R.faults reader.new)) }
     ensures given { R.given reader.new ≤ R.given reader.old + 2 ^ 40 }
+    ensures once { (files : Files) → R.files reader.old ≡ Some files → R.given reader.new ≤ R.given reader.old + size_of (get files input.now) }
     ensures later { R.faults reader.old ≤ R.faults reader.new }
     ensures files { R.files reader.new ≡ R.files reader.old }
 {

@@ -1,5 +1,5 @@
 //! A file is read into a list of paths.
-ghost use Rattle.std.specs.Prelude.{◌≤◌, ◌+◌, ◌^◌, IfOk, IfSome, IsErrOf, IsTrue, All};
+ghost use Rattle.std.specs.Prelude.{◌≤◌, ◌+◌, ◌^◌, IfOk, IfSome, IsErrOf, IsTrue, All, length};
 ghost use Rattle.loc_outside.specs.Causes.{Rose};
 ghost use Rattle.byte_feed.specs.Feed.{Draws, reach, window};
 ghost use Rattle.byte_feed.specs.Paths.{IsPath};
@@ -29,6 +29,7 @@ pub fn read_paths<S: Source>(
     ensures fault { IsErrOf result (ListFault.File DbFault.ReadFault) → Rose (S.faults src.old) (S.faults src.new) }
     ensures later { S.faults src.old ≤ S.faults src.new }
     ensures given { S.given src.new ≤ S.given src.old + 2 ^ 40 }
+    ensures once { IfSome (S.left src.old) (λ file. S.given src.new ≤ S.given src.old + length file) }
     ensures kept { S.kept src.old src.new }
 {
     match format {
@@ -44,6 +45,7 @@ fn read_in<S: Source>(alloc: Global, format: Format, src: &mut S) -> Result<Path
     ensures fault { IsErrOf result (ListFault.File DbFault.ReadFault) → Rose (S.faults src.old) (S.faults src.new) }
     ensures later { S.faults src.old ≤ S.faults src.new }
     ensures given { S.given src.new ≤ S.given src.old + 2 ^ 40 }
+    ensures once { IfSome (S.left src.old) (λ file. S.given src.new ≤ S.given src.old + length file) }
     ensures kept { S.kept src.old src.new }
 {
     match format {

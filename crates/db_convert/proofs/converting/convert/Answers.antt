@@ -11,5 +11,5 @@ returns-clause-does g c =
     let read = c.in-Ok.ensures in
     let ready = c.in-Ok-admit.ensures in
     let did = c.in-Ok-store.ensures in
-    was_stored _ _ _ _ c.in-Ok.paths _ (record { read = read.read; readable = read.readable; given = read.given; later = read.later }) ready.admitted did.cause.later
+    was_stored _ _ _ _ c.in-Ok.paths _ (record { read = read.read; readable = read.readable; given = read.given; once = read.once; later = read.later }) ready.admitted did.cause.later
     (did.stored ∙ ap (λ (f : Format). option_map (with_file c.args.target.now (encode f c.in-Ok.paths)) (g.O.Output.held c.args.output.now)) ready.format) did.begun c.len.ensures

@@ -8,7 +8,7 @@ use Rattle.path_list.specs.Reader as list
 use Rattle.path_list.specs.declared.mark.Mark.TheVariants.{Newline, Zero}
 use Rattle.db_convert.specs.declared.format.Format.{Format}
 use Rattle.db_convert.specs.Reading.{Answers, contents_in}
-use Rattle.db_convert.proofs.ReadFiles.{stream_answers}
+use Rattle.db_convert.proofs.ReadFiles.{drawn_once, stream_answers}
 use Rattle.db_convert.proofs.reading.read_in.Goals as goal
 
 pub returns-in-Mlocate-clause-answer : goal.returns-in-Mlocate-clause-answer
@@ -35,3 +35,18 @@ pub returns-in-List0-clause-answer : goal.returns-in-List0-clause-answer
 returns-in-List0-clause-answer g c =
     subst (λ (f : Format). IfSome (g.S.Source.left c.args.src.now) (λ (file : List ℕ). Answers (contents_in (Some f) file) c.read_stream-in-List0.result)) (sym c.in-List0.is)
     (stream_answers list.paths_left (λ (r : list.ReaderState). r.feed) _ (list.fresh_on (empty_at 0) Zero) c.new-in-List0.ensures refl _ _ c.read_stream-in-List0.ensures.answer)
+
+pub returns-in-Mlocate-clause-once : goal.returns-in-Mlocate-clause-once
+returns-in-Mlocate-clause-once g c = drawn_once _ _ _ _ _ _ c.read_stream.ensures.drawn
+
+pub returns-in-Locate02-clause-once : goal.returns-in-Locate02-clause-once
+returns-in-Locate02-clause-once g c = drawn_once _ _ _ _ _ _ c.read_stream-in-Locate02.ensures.drawn
+
+pub returns-in-Bigram-clause-once : goal.returns-in-Bigram-clause-once
+returns-in-Bigram-clause-once g c = drawn_once _ _ _ _ _ _ c.read_stream-in-Bigram.ensures.drawn
+
+pub returns-in-List-clause-once : goal.returns-in-List-clause-once
+returns-in-List-clause-once g c = drawn_once _ _ _ _ _ _ c.read_stream-in-List.ensures.drawn
+
+pub returns-in-List0-clause-once : goal.returns-in-List0-clause-once
+returns-in-List0-clause-once g c = drawn_once _ _ _ _ _ _ c.read_stream-in-List0.ensures.drawn
