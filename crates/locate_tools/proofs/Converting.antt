@@ -33,6 +33,7 @@ same_as asked a a' S S' r same does = record {
   bounded = record {
     unready = λ files fault fs refused. same (does.bounded.unready files fault fs refused);
     given_most = does.bounded.given_most;
+    read_once = does.bounded.read_once;
     reads_later = does.bounded.reads_later;
     output_later = does.bounded.output_later;
   };
@@ -79,6 +80,7 @@ does_none asked a = record {
   bounded = record {
     unready = λ files fault fs refused. (refl, refl, refl);
     given_most = omega arith;
+    read_once = λ files fs. omega arith;
     reads_later = omega arith;
     output_later = omega arith;
   };
