@@ -94,16 +94,14 @@ fn writes_each_format(rt: HostRuntime) -> Result<(), AllocError> {
     Ok(())
 }
 
-/// The database that is written for a list of lines, behind its front.
+/// The blocks of the database that is written for a list of lines.
 fn written(alloc: Global, list: &[u8]) -> Result<Vec<u8>, AllocError> {
     let mut world = world_of(alloc, list)?;
     let mut blocks = Vec::new(alloc);
-    if run(alloc, Some(Format::List), Format::Mlocate, &mut world).is_ok()
-        && stored(&world).starts_with(FRONT)
-    {
-        blocks.extend_from_slice(&stored(&world)[FRONT.len()..])?;
-    } else {
-        blocks.extend_from_slice(b"none")?;
+    let _ = run(alloc, Some(Format::List), Format::Mlocate, &mut world);
+    match stored(&world).strip_prefix(FRONT) {
+        Some(rest) => blocks.extend_from_slice(rest)?,
+        None => blocks.extend_from_slice(b"none")?,
     }
     Ok(blocks)
 }
