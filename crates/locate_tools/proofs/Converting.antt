@@ -2,7 +2,7 @@
 use Rattle.std.specs.Prelude.{IfErr, ◌≢◌, option_map}
 use Rattle.std.proofs.Common.{◌≡◌, ℕ, Option, Result, Ok, Err, inl, inr, refl, ap, subst, ◌∙◌, arith}
 use Rattle.tool_words.specs.Convert.{ConvertAsked}
-use Rattle.db_convert.specs.Converts.{AfterFault, Around, Asked, Bounded, ConvertDoes}
+use Rattle.db_convert.specs.Converts.{AfterFault, Around, Asked, ConvertDoes}
 use Rattle.db_convert.specs.declared.format.Format.{Format}
 use Rattle.db_convert.specs.declared.fault.ConvertFault.{ConvertFault}
 use Rattle.db_convert.specs.declared.fault.ConvertFault.TheVariants as faults
