@@ -24,7 +24,7 @@ pub struct Exercised {
 }
 
 /// The rules of a sample's updates.
-fn sample_rules(alloc: Global) -> Rules
+pub(crate) fn sample_rules(alloc: Global) -> Rules
     ensures plan { plan_of result ≡ sample_plan }
     ensures block { length (plan_of result).block < 2 ^ 32 }
 {
