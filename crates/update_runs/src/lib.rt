@@ -11,7 +11,7 @@ mod single;
 mod tests;
 
 pub use exercising::{Exercised, exercise};
-pub use laws::{sample_is_kept, scan_stays_honest};
+pub use laws::{sample_is_kept, scan_is_of_mlocate, scan_stays_honest};
 pub use list::update_list;
 pub use outcome::{ListFault, ListResult};
 pub use sample_trees::SampleStep as UpdateStep;
