@@ -17,8 +17,8 @@ added_name round edit = numbered 110 round ++ numbered 95 edit
 abbrev pub numbered_from : ℕ → Kind → ℕ → ℕ → Listed
 numbered_from letter kind from count = map (λ number. (numbered letter number, kind)) (range_with_len from count)
 
--- The names that lead from the root to a directory: `d` and its number, after those of number `i` where it is `i` * 8 and 1
--- to 8. The first argument bounds the recursion.
+-- The names that lead from the root to a directory: `d` and its number, after the names of number `i` where its number is 8
+-- times `i` plus 1 to 8. The first argument bounds the recursion.
 abbrev pub names_within : ℕ → ℕ → List (List ℕ)
 names_within zero number = []
 names_within (suc bound) zero = []

@@ -5,7 +5,7 @@ use Rattle.std.specs.Prelude.{ℕ, zero, suc, ◌+◌, ◌*◌, ◌/◌, ◌%◌
 unfoldable pub next_state : ℕ → ℕ
 next_state state = (state * 6364136223846793005 + 1442695040888963407) % 2 ^ 64
 
--- the number below another one that a draw gives by the state after it
+-- what a draw gives, below a bound, from the state after it
 unfoldable pub given_by : ℕ → ℕ → ℕ
 given_by state below = state / 2 ^ 33 % below
 

@@ -28,7 +28,7 @@ fn push_step(
 }
 
 /// The first tree of 2,001 directories and the one after each round of edits, each with its moment.
-/// No tree was opened or looked up, and no call of one is set to fail. The only refusal is want of memory.
+/// No tree was opened or looked up, and no call of one is set to fail. The only refusal is that memory runs out.
 pub fn sample_steps(alloc: Global, seed: u64, rounds: u8) -> Result<Vec<SampleStep>, AllocError>
     ensures { IfOk result (λ steps. steps.items ≡ steps_of seed rounds) }
 {

@@ -4,7 +4,7 @@ use Rattle.tree_scan.specs.declared.rules.ScanFault.TheVariants as scan
 use Rattle.update_runs.specs.declared.outcome.ListFault.{ListFault}
 use Rattle.update_runs.specs.declared.outcome.ListFault.TheVariants as list
 
--- The fault that a scan's is answered with. No call of the tree fails, and a write to memory fails only for want of it.
+-- The answer to a scan's fault. No call of the tree fails, and a write to memory fails only where that runs out.
 abbrev pub fault_of : ScanFault → ListFault
 fault_of scan.RootMissing = list.RootMissing
 fault_of scan.TreeFault = list.OutOfMemory

@@ -9,13 +9,13 @@ use Rattle.update_runs.specs.declared.outcome.ListFault.TheVariants.{OutOfMemory
 use Rattle.update_runs.specs.declared.outcome.ListResult.{ListResult}
 use Rattle.update_runs.specs.Single.{IsHonest, Passes, Refuses, opened_in, scan_of}
 
--- a step whose tree has no call that is set to fail, and was opened at most so often
+-- a step whose tree has no call that is set to fail, and was opened at most 2^63 times
 pub record IsReady (step : SampleStep) : Type 0 where
   pub steady : step.tree.failures.due ≡ []
   pub openings : step.tree.openings ≤ 2 ^ 63
 
--- In each step a directory that still bears the time of its record in the database before, which is not zero, shows the
--- names of the record. The database before the first step is given.
+-- In each step each directory that is tried and still bears the time, not zero, and the device of one of its records in the
+-- database before shows the names of that record. The database before the first step is given.
 abbrev pub Kept : Plan → List ℕ → List SampleStep → Type 0
 Kept plan old [] = ⊤
 Kept plan old (step ∷ steps) = IsHonest plan old step.tree.dirs × Kept plan (scan_of plan step) steps
@@ -45,8 +45,8 @@ abbrev pub StopsAt : ListFault → Plan → List ℕ → List SampleStep → Typ
 StopsAt fault plan old [] = fault ≡ OutOfMemory
 StopsAt fault plan old (step ∷ steps) = Refuses plan old step.tree.dirs fault ⊎ (Passes plan old step.tree.dirs × StopsAt fault plan (scan_of plan step) steps)
 
--- What a list of updates comes to: the last database and its directories; the openings, where the database before the first
--- step is in order; and that all steps have passed.
+-- What a list of updates comes to: the last database, the directories reached in the last step, and the openings, where the
+-- database before the first step is in order; and that all steps have passed.
 pub record Comes (plan : Plan) (start : List ℕ) (steps : List SampleStep) (list : ListResult) : Type 0 where
   pub bytes : list.bytes ≡ last_database plan start steps
   pub directories : list.directories ≡ last_reached plan 0 steps

@@ -22,7 +22,7 @@ scan_of plan step = scan_text step.tree.dirs plan step.now
 abbrev pub IsHonest : Plan → List ℕ → Dirs → Type 0
 IsHonest plan old dirs = Honest (Some (records plan.root plan.block old)) dirs plan
 
--- how many directories an update opens: those that are tried and that no record of the old database vouches for
+-- how many directories an update has to open: those that are tried and that no record of the old database vouches for
 abbrev pub opened_in : Plan → List ℕ → Dirs → ℕ
 opened_in plan old dirs = length (unvouched (records plan.root plan.block old) plan (tried dirs plan.pruned plan.root))
 
@@ -32,8 +32,8 @@ pub record Passes (plan : Plan) (old : List ℕ) (dirs : Dirs) : Type 0 where
   pub few : length (tried dirs plan.pruned plan.root) ≤ 4294967295
   pub narrow : Narrow 16777216 (unvouched (records plan.root plan.block old) plan (reached dirs plan.pruned plan.root))
 
--- What a fault tells: the root is missing, or a limit is passed. That too many names are listed where no record vouches is
--- known of an old database that is in order.
+-- What a fault tells: the root is missing, or a limit is passed; that memory ran out tells nothing. That too many names are
+-- listed where no record vouches is known of an old database that is in order.
 pub record Refuses (plan : Plan) (old : List ℕ) (dirs : Dirs) (fault : ListFault) : Type 0 where
   pub found : Found (in_scan fault) usual plan.root dirs
   pub exceeded : Exceeded (in_scan fault) usual (records plan.root plan.block old) (is_ordered plan.root plan.block old) dirs plan

@@ -43,7 +43,7 @@ pub(crate) fn sample_rules(alloc: Global) -> Rules
 }
 
 /// Updates the sample that is drawn by this number, from no database on: its first tree, and the one after each round.
-/// The only refusal is want of memory.
+/// The only refusal is that memory runs out.
 pub fn exercise(alloc: Global, number: u64, rounds: u8) -> Result<Exercised, AllocError>
     ensures { IfOk result (λ shown. shown ≡ exercised number rounds) }
 {

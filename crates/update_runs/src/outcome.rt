@@ -3,7 +3,8 @@
 use byte_feed::Bytes;
 use thiserror::Error;
 
-/// The last database, how many directories it has, and how many were opened in all updates.
+/// The last database, how many directories were reached in the last update (0 where there is none), and how many were opened in
+/// all updates.
 #[derive(Drop)]
 pub struct ListResult {
     pub bytes: Bytes,
@@ -11,7 +12,7 @@ pub struct ListResult {
     pub openings: u64,
 }
 
-/// Why a list of updates has ended early, at its first step that was refused.
+/// Why a list of updates has ended early: its first step that was refused, or memory ran out, at any time.
 #[derive(Clone, Copy, Debug, PartialEq, Eq, Error)]
 pub enum ListFault {
     /// The root is not there.

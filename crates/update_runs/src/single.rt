@@ -20,7 +20,7 @@ pub(crate) struct StepCounts {
     pub(crate) directories: u64,
 }
 
-/// The fault that a scan's is answered with. What is written to memory fails only for want of it.
+/// The answer to a scan's fault. A write to memory fails only where that runs out.
 fn fault_of_scan(fault: ScanFault) -> ListFault
     ensures { result ≡ fault_of fault }
 {
