@@ -14,7 +14,7 @@ returns-in-Ok-clause-done c =
     subst (λ (b : List ℕ). OpensKnown plan.root b (Some c.args.old.now) cursor left) c.requires.same
     (subst (λ (s : Lent). OpensKnown plan.root c.args.block.now (Some s.left) cursor left) c.new-source.ensures c.open_on-voucher.ensures.opened) in
     updated plan c.args.old.now c.args.step.now _ _ c.standard.result c.args.into.now.held.pending c.scan-scanned.new.sink.held.pending c.in-Ok.counts _ _ _ _ _
-    (opened plan c.args.old.now left cursor c.scan-scanned.new.voucher.cursor opens c.open_on-voucher.ensures.broke c.scan-scanned.ensures.voucher_kept.3)
+    (opened plan c.args.old.now left cursor c.scan-scanned.new.voucher.cursor opens c.open_on-voucher.ensures.broke c.scan-scanned.ensures.voucher_kept.2.unbroken)
     c.standard.ensures c.requires.empty (let h = c.requires.openings in omega (arith, h)) refl
     (c.saturating_sub.ensures ∙ (λ i. c.openings.ensures.told i - c.openings-before.ensures.told i))
     c.in-Ok.ensures.done c.in-Ok.ensures.completed
@@ -29,5 +29,5 @@ returns-in-Err-clause-refused c =
     subst (λ (b : List ℕ). OpensKnown plan.root b (Some c.args.old.now) cursor left) c.requires.same
     (subst (λ (s : Lent). OpensKnown plan.root c.args.block.now (Some s.left) cursor left) c.new-source.ensures c.open_on-voucher.ensures.opened) in
     refused plan c.args.old.now c.args.step.now.tree.dirs _ _ c.standard.result c.in-Err.fault c.fault_of_scan.result
-    (opened plan c.args.old.now left cursor c.scan-scanned.new.voucher.cursor opens c.open_on-voucher.ensures.broke c.scan-scanned.ensures.voucher_kept.3)
+    (opened plan c.args.old.now left cursor c.scan-scanned.new.voucher.cursor opens c.open_on-voucher.ensures.broke c.scan-scanned.ensures.voucher_kept.2.unbroken)
     c.standard.ensures c.fault_of_scan.ensures c.in-Err.ensures.found c.in-Err.ensures.exceeded
