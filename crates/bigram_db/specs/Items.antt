@@ -26,6 +26,7 @@ pub data TextUnit : Type 0 where
   Escaped : (byte : ℕ) → TextUnit
   Paired : (number : ℕ) → TextUnit
 
+-- What a file is made of: the table of pairs, and for each path a count and the units of its text.
 pub data Item : Type 0 where
   TableItem : (table : List ℕ) → Item
   PathItem : Count → List TextUnit → Item
@@ -124,6 +125,7 @@ at_least_zero (negsuc n) = 0
 abbrev pub shared_by : ℕ → Count → ℕ
 shared_by old count = at_least_zero (pos old +ℤ amount count)
 
+-- Which item may come next, and before which bytes: the table first and once, then paths whose text ends there.
 abbrev pub allowed : State → Item → Bool → List ℕ → Type 0
 allowed AtStart (TableItem table) last rest = is_table table ≡ true
 allowed (After table path old) (PathItem count units) last rest = IsEntry table path old count units (shared_by old count) × (ends last rest ≡ true)
@@ -230,6 +232,7 @@ item_at last (After table path old) bytes = entry_at last table path old bytes
 
 -- ---- what an item gives
 
+-- the path that an item gives, and the number of its bytes before its base name
 abbrev pub path_of : State → Item → Option (List ℕ × ℕ)
 path_of (After table path old) (PathItem count units) =
     let text = path_with path (shared_by old count) (text_of table units) in

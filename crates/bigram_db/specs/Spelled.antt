@@ -64,6 +64,7 @@ encode_path table before old path =
     let new = common_prefix before path in
     spell_count (count_between old new) ++ spell_units (units_for table (drop new path))
 
+-- the items of these paths with this table, after this path, which shares `old` bytes with the path before it
 abbrev pub encode_after : List ℕ → List ℕ → ℕ → List (List ℕ) → List ℕ
 encode_after table before old [] = []
 encode_after table before old (path ∷ paths) = encode_path table before old path ++ encode_after table path (common_prefix before path) paths

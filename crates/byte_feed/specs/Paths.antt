@@ -11,6 +11,7 @@ pub record Rest (f : Format) : Type 0 where
   pub ending : Ending
   pub place : ℕ
 
+-- what a window of a file still gives, from this state and place on: its items, how it ends, and where
 unfoldable pub rest_of : (f : Format) → f.State → ℕ → Window → Rest f
 rest_of f s place w =
     let items = items_of f (not w.more) s w.bytes in

@@ -9,25 +9,27 @@ use std::alloc::{AllocError, Global};
 use tool_words::UpdatedbSettings;
 
 /// The database of `/`, `/a`, `/a/z` and `/a.b`, which changed at 1,000 s.
-const FOUR: &[u8] =
+fn four() -> &'static [u8] {
     b"\0mlocate\0\0\0\x36\0\x01\0\0/\0prune_bind_mounts\x000\0\0prunefs\0\0prunenames\0\0prunepaths\0\0\
     \0\0\0\0\0\0\x03\xE8\0\0\0\0\0\0\0\0/\0\x01a\0\x01a.b\0\x02\
     \0\0\0\0\0\0\x03\xE8\0\0\0\0\0\0\0\0/a\0\x01z\0\x02\
     \0\0\0\0\0\0\x03\xE8\0\0\0\0\0\0\0\0/a/z\0\x02\
-    \0\0\0\0\0\0\x03\xE8\0\0\0\0\0\0\0\0/a.b\0\x02";
+    \0\0\0\0\0\0\x03\xE8\0\0\0\0\0\0\0\0/a.b\0\x02"
+}
 
 /// The same, with `/a.b` before `/a/z`.
-const OUT_OF_ORDER: &[u8] =
+fn out_of_order() -> &'static [u8] {
     b"\0mlocate\0\0\0\x36\0\x01\0\0/\0prune_bind_mounts\x000\0\0prunefs\0\0prunenames\0\0prunepaths\0\0\
     \0\0\0\0\0\0\x03\xE8\0\0\0\0\0\0\0\0/\0\x01a\0\x01a.b\0\x02\
     \0\0\0\0\0\0\x03\xE8\0\0\0\0\0\0\0\0/a\0\x01z\0\x02\
     \0\0\0\0\0\0\x03\xE8\0\0\0\0\0\0\0\0/a.b\0\x02\
-    \0\0\0\0\0\0\x03\xE8\0\0\0\0\0\0\0\0/a/z\0\x02";
+    \0\0\0\0\0\0\x03\xE8\0\0\0\0\0\0\0\0/a/z\0\x02"
+}
 
 /// The tree of that database, which is old.
 fn unchanged(alloc: Global) -> Result<World, AllocError> {
     let mut world = three_levels(alloc, false)?;
-    world.files.put("/db", FOUR)?;
+    world.files.put("/db", four())?;
     Ok(world)
 }
 
@@ -35,12 +37,12 @@ fn unchanged(alloc: Global) -> Result<World, AllocError> {
 fn whole_records_are_reused(rt: HostRuntime) -> Result<(), AllocError> {
     for (kept, openings) in [(166, 0), (130, 2), (118, 3), (72, 4), (20, 4), (0, 4)] {
         let mut world = unchanged(rt.alloc())?;
-        world.files.put("/db", FOUR.get(..kept).unwrap_or(b""))?;
+        world.files.put("/db", four().get(..kept).unwrap_or(b""))?;
         assert_eq!(rt;
             run_at(rt.alloc(), &plain(), 3_000, &mut world),
             counts(4, 3)
         );
-        assert_eq!(rt; stored(&world), FOUR);
+        assert_eq!(rt; stored(&world), four());
         assert_eq!(rt; (world.tree.openings(), world.tree.stats()), (openings, 4));
     }
     Ok(())
@@ -59,8 +61,8 @@ fn a_changed_directory_is_listed(rt: HostRuntime) -> Result<(), AllocError> {
     assert_eq!(rt; (stored(&world).len(), world.tree.openings()), (169, 1));
     let block = b"\0\0\0\0\0\0\x09\xC4\0\0\0\0\0\0\0\0/a\0\0k\0\x01z\0\x02".as_slice();
     assert_eq!(rt; stored(&world).get(99..125).unwrap_or(b""), block);
-    assert_eq!(rt; stored(&world).get(..99), FOUR.get(..99));
-    assert_eq!(rt; stored(&world).get(125..), FOUR.get(122..));
+    assert_eq!(rt; stored(&world).get(..99), four().get(..99));
+    assert_eq!(rt; stored(&world).get(125..), four().get(122..));
     Ok(())
 }
 
@@ -120,12 +122,12 @@ fn recent_times_are_reused_and_not_written(rt: HostRuntime) -> Result<(), AllocE
 #[test]
 fn records_out_of_order_change_no_byte(rt: HostRuntime) -> Result<(), AllocError> {
     let mut world = unchanged(rt.alloc())?;
-    world.files.put("/db", OUT_OF_ORDER)?;
+    world.files.put("/db", out_of_order())?;
     assert_eq!(rt;
         run_at(rt.alloc(), &plain(), 3_000, &mut world),
         counts(4, 3)
     );
-    assert_eq!(rt; stored(&world), FOUR);
+    assert_eq!(rt; stored(&world), four());
     Ok(())
 }
 
@@ -138,7 +140,7 @@ fn a_failed_read_of_the_old_database_is_no_fault(rt: HostRuntime) -> Result<(), 
             run_at(rt.alloc(), &plain(), 3_000, &mut world),
             counts(4, 3)
         );
-        assert_eq!(rt; stored(&world), FOUR);
+        assert_eq!(rt; stored(&world), four());
         assert_eq!(rt; world.files.faults() == 1, world.tree.openings() == 4);
         assert_eq!(rt; n > 4, world.tree.openings() == 0);
     }
@@ -149,11 +151,11 @@ fn a_failed_read_of_the_old_database_is_no_fault(rt: HostRuntime) -> Result<(), 
 fn long(alloc: Global) -> Result<Vec<u8>, AllocError> {
     let name = vec![in alloc; b'd'; 4_093]?;
     let mut old = Vec::new(alloc);
-    old.extend_from_slice(FOUR.get(..90).unwrap_or(b""))?;
+    old.extend_from_slice(four().get(..90).unwrap_or(b""))?;
     old.push(1)?;
     old.extend_from_slice(&name)?;
     old.extend_from_slice(b"\0\x02")?;
-    old.extend_from_slice(FOUR.get(72..89).unwrap_or(b""))?;
+    old.extend_from_slice(four().get(72..89).unwrap_or(b""))?;
     old.extend_from_slice(&name)?;
     old.extend_from_slice(b"\0\0e\0\x02")?;
     Ok(old)
@@ -199,15 +201,15 @@ fn behind_a_foreign_header_nothing_is_read(rt: HostRuntime) -> Result<(), AllocE
 fn a_later_nanosecond_is_listed(rt: HostRuntime) -> Result<(), AllocError> {
     let mut world = unchanged(rt.alloc())?;
     let mut old = Vec::new(rt.alloc());
-    old.extend_from_slice(FOUR.get(..110).unwrap_or(b""))?;
+    old.extend_from_slice(four().get(..110).unwrap_or(b""))?;
     old.push(1)?;
-    old.extend_from_slice(FOUR.get(111..).unwrap_or(b""))?;
+    old.extend_from_slice(four().get(111..).unwrap_or(b""))?;
     world.files.put("/db", &old)?;
     assert_eq!(rt;
         run_at(rt.alloc(), &plain(), 3_000, &mut world),
         counts(4, 3)
     );
-    assert_eq!(rt; stored(&world), FOUR);
+    assert_eq!(rt; stored(&world), four());
     assert_eq!(rt; world.tree.openings(), 1);
     Ok(())
 }
@@ -229,6 +231,12 @@ fn on_device(alloc: Global, device: &[u8], told: bool, old: &[u8]) -> Result<Wor
     Ok(world)
 }
 
+/// The openings of a run of version 0 on this device, after that first one, if it stores what the plain one did.
+fn back_to_plain(alloc: Global, device: &[u8], first: &World, plain: &World) -> Result<Option<u64>, AllocError> {
+    let back = on_device(alloc, device, false, stored(first))?;
+    Ok((stored(&back) == stored(plain)).then_some(back.tree.openings()))
+}
+
 #[test]
 fn the_version_changes_from_run_to_run(rt: HostRuntime) -> Result<(), AllocError> {
     let plain_world = on_device(rt.alloc(), b"8:1", false, b"")?;
@@ -236,11 +244,8 @@ fn the_version_changes_from_run_to_run(rt: HostRuntime) -> Result<(), AllocError
     let again = on_device(rt.alloc(), b"8:1", true, stored(&plain_world))?;
     assert_eq!(rt; again.tree.openings(), 0);
     assert_eq!(rt; stored(&again), stored(&first));
-    for (device, openings) in [(b"8:1".as_slice(), 0), (b"8:2".as_slice(), 1)] {
-        let back = on_device(rt.alloc(), device, false, stored(&first))?;
-        assert_eq!(rt; back.tree.openings(), openings);
-        assert_eq!(rt; stored(&back), stored(&plain_world));
-    }
+    assert_eq!(rt; back_to_plain(rt.alloc(), b"8:1", &first, &plain_world)?, Some(0));
+    assert_eq!(rt; back_to_plain(rt.alloc(), b"8:2", &first, &plain_world)?, Some(1));
     let other = on_device(rt.alloc(), b"8:2", true, stored(&first))?;
     assert_eq!(rt; other.tree.openings(), 1);
     assert_eq!(rt;

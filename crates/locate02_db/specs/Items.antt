@@ -77,6 +77,7 @@ at_least_zero (negsuc n) = 0
 abbrev pub shared_by : ℕ → Change → ℕ
 shared_by old change = at_least_zero (pos old +ℤ amount change)
 
+-- Which item may come next: the preamble first and once, then paths that keep the rules of an entry.
 abbrev pub allowed : State → Item → Type 0
 allowed AtStart PreambleItem = Unit {0}
 allowed (After path old) (PathItem change remainder) = IsEntry path old change remainder (shared_by old change)
@@ -141,6 +142,7 @@ item_at (After path old) bytes = entry_at path old bytes
 
 -- ---- what an item gives
 
+-- the path that an entry gives, and the number of its bytes before its base name
 abbrev pub path_of : State → Item → Option (List ℕ × ℕ)
 path_of (After path old) (PathItem change remainder) =
     let text = path_with path (shared_by old change) remainder in

@@ -43,6 +43,7 @@ encode_path before old path =
     let new = common_prefix before path in
     spell_change (change_between old new) ++ ended (drop new path)
 
+-- the entries of these paths, after this path, which shares `old` bytes with the path before it
 abbrev pub encode_after : List ℕ → ℕ → List (List ℕ) → List ℕ
 encode_after before old [] = []
 encode_after before old (path ∷ paths) = encode_path before old path ++ encode_after path (common_prefix before path) paths

@@ -76,6 +76,7 @@ pub record Unwritten (rule : Rule) (block : Block) (p : PathAt) (old new : Stand
   pub counts : new.matched ≡ old.matched
   pub asks : new.asks ≡ raised old.asks (calls_due rule block p)
 
+-- What a step of a search does to its standing, by how it ends.
 abbrev pub Takes : Rule → Block → Block → PathAt → Stand → Stand → Step → Type 0
 Takes rule block block' p old new steps.On = Through rule block block' p old new
 Takes rule block block' p old new steps.LimitReached = Through rule block block' p old new × (is_shown rule p ≡ true)

@@ -29,6 +29,7 @@ pub record Head : Type 0 where
   pub device : ℕ
   pub path : List ℕ
 
+-- What a file is made of: the header, and for each directory its head, its entries and the end mark.
 pub data Item : Type 0 where
   HeaderItem : Header → Item
   HeadItem : Head → Item
@@ -83,20 +84,24 @@ in_directory path = if is_root path then path else path ++ 47 ∷ []
 abbrev pub room_in : List ℕ → ℕ
 room_in path = max_path - length (in_directory path)
 
+-- Sizes of the fixed part of a header as mlocate.db(5) has them: 32 bits, one of two versions, 16 bits.
 pub record IsFixed (f : Fixed) : Type 0 where
   pub size : f.size < 2 ^ 32
   pub version : f.version < 2
   pub padding : f.padding < 2 ^ 16
 
+-- A directory's time as mlocate.db(5) has it, with 64 and 32 bits; less than a second of nanoseconds; a device of 32 bits.
 pub record IsNumbers (n : Numbers) : Type 0 where
   pub seconds : n.seconds < 2 ^ 64
   pub nanos : n.nanos < 1000000000
   pub device : n.device < 2 ^ 32
 
+-- a header that can be written: numbers that fit their fields, and a root that is a text within the limit
 pub record IsHeader (h : Header) : Type 0 where
   pub fixed : IsFixed (fixed_of h)
   pub root : IsText max_path h.root
 
+-- a directory's head that can be written: numbers that fit their fields, and a path within the limit
 pub record IsHead (h : Head) : Type 0 where
   pub numbers : IsNumbers (numbers_of h)
   pub path : IsText max_path h.path

@@ -11,6 +11,7 @@ use Rattle.byte_feed.specs.Paths.{IsPath, before_base}
 
 -- ---- what an item holds, and how it is spelled
 
+-- A path, with the mark that ends it or, at the end of the file, without.
 pub data Item : Type 0 where
   Marked : (path : List ℕ) → Item
   Unmarked : (path : List ℕ) → Item

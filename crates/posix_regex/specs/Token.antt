@@ -12,6 +12,8 @@ use Rattle.posix_regex.specs.Lex.{meaning_at}
 use Rattle.posix_regex.specs.Interval.{interval_at}
 use Rattle.posix_regex.specs.Bracket.{on_ok, bracket}
 
+-- What a reader of expressions meets: an expression of one place; a repetition, with its least and its greatest number where it has one;
+-- the bar; a parenthesis.
 pub data Token : Type 0 where
   Atom : Expression → Token
   Suffix : ℕ → Option ℕ → Token
