@@ -232,7 +232,12 @@ fn on_device(alloc: Global, device: &[u8], told: bool, old: &[u8]) -> Result<Wor
 }
 
 /// The openings of a run of version 0 on this device, after that first one, if it stores what the plain one did.
-fn back_to_plain(alloc: Global, device: &[u8], first: &World, plain: &World) -> Result<Option<u64>, AllocError> {
+fn back_to_plain(
+    alloc: Global,
+    device: &[u8],
+    first: &World,
+    plain: &World,
+) -> Result<Option<u64>, AllocError> {
     let back = on_device(alloc, device, false, stored(first))?;
     Ok((stored(&back) == stored(plain)).then_some(back.tree.openings()))
 }
@@ -244,8 +249,14 @@ fn the_version_changes_from_run_to_run(rt: HostRuntime) -> Result<(), AllocError
     let again = on_device(rt.alloc(), b"8:1", true, stored(&plain_world))?;
     assert_eq!(rt; again.tree.openings(), 0);
     assert_eq!(rt; stored(&again), stored(&first));
-    assert_eq!(rt; back_to_plain(rt.alloc(), b"8:1", &first, &plain_world)?, Some(0));
-    assert_eq!(rt; back_to_plain(rt.alloc(), b"8:2", &first, &plain_world)?, Some(1));
+    assert_eq!(rt;
+        back_to_plain(rt.alloc(), b"8:1", &first, &plain_world)?,
+        Some(0)
+    );
+    assert_eq!(rt;
+        back_to_plain(rt.alloc(), b"8:2", &first, &plain_world)?,
+        Some(1)
+    );
     let other = on_device(rt.alloc(), b"8:2", true, stored(&first))?;
     assert_eq!(rt; other.tree.openings(), 1);
     assert_eq!(rt;
