@@ -87,6 +87,7 @@ stands_stopped plan start all old directories openings step rest fault stands re
 pub memory_stops : (plan : Plan) (old : List ℕ) (steps : List SampleStep) → StopsAt OutOfMemory plan old steps
 memory_stops plan old [] = refl
 memory_stops plan old (step ∷ steps) = inl (record {
+  lacking = λ gone. inr refl;
   found = record { missing = λ e. absurd cc; wide_there = λ e. absurd cc; many_there = λ e. absurd cc };
   exceeded = record { wide_reached = λ e. absurd cc; many_tried = λ e. absurd cc };
 })

@@ -1,13 +1,17 @@
 -- A list of updates, each over the database that the one before has made.
-use Rattle.std.specs.Prelude.{◌≡◌, ◌≤◌, ◌+◌, ◌^◌, ◌⊎◌, ℕ, List, [], ◌∷◌, length, IsTrue, ⊤}
+use Rattle.std.specs.Prelude.{◌≡◌, ◌≤◌, ◌+◌, ◌^◌, ◌⊎◌, ℕ, Any, List, [], ◌∷◌, length, map, IsTrue, ⊤}
+use Rattle.std.specs.List.{sum_by}
+use Rattle.loc_outside.specs.Trees.{Dirs}
 use Rattle.sample_trees.specs.declared.step.SampleStep.{SampleStep}
 use Rattle.tree_scan.specs.Plan.{Plan}
 use Rattle.tree_scan.specs.Reach.{reached}
+use Rattle.tree_scan.specs.Scans.{Found, usual}
 use Rattle.dir_reuse.specs.Usable.{is_ordered}
 use Rattle.update_runs.specs.declared.outcome.ListFault.{ListFault}
 use Rattle.update_runs.specs.declared.outcome.ListFault.TheVariants.{OutOfMemory}
 use Rattle.update_runs.specs.declared.outcome.ListResult.{ListResult}
-use Rattle.update_runs.specs.Single.{IsHonest, Passes, Refuses, opened_in, scan_of}
+use Rattle.update_runs.specs.Faults.{in_scan}
+use Rattle.update_runs.specs.Single.{IsHonest, Passes, Refuses, opened_in, scan_of, shown_by}
 
 -- a step whose tree has no call that is set to fail, and was opened at most 2^63 times
 pub record IsReady (step : SampleStep) : Type 0 where
@@ -44,6 +48,24 @@ AllPass plan old (step ∷ steps) = Passes plan old step.tree.dirs × AllPass pl
 abbrev pub StopsAt : ListFault → Plan → List ℕ → List SampleStep → Type 0
 StopsAt fault plan old [] = fault ≡ OutOfMemory
 StopsAt fault plan old (step ∷ steps) = Refuses plan old step.tree.dirs fault ⊎ (Passes plan old step.tree.dirs × StopsAt fault plan (scan_of plan step) steps)
+
+-- Memory ran out, or one of these trees lacks the root or has what passes the limit that a fault tells of.
+abbrev pub IsSeen : ListFault → List ℕ → List Dirs → Type 0
+IsSeen fault root trees = (fault ≡ OutOfMemory) ⊎ Any (Found (in_scan fault) usual root) trees
+
+-- the trees of steps
+abbrev pub trees_of : List SampleStep → List Dirs
+trees_of steps = map (λ step. step.tree.dirs) steps
+
+-- how often the trees of these steps were opened
+abbrev pub openings_of : List SampleStep → ℕ
+openings_of steps = sum_by (λ step. step.tree.openings) steps
+
+-- What a list of updates does with its steps: moments and directories stay, and no more is opened than all steps need, where the
+-- database before the first step is in order.
+pub record Asks (plan : Plan) (start : List ℕ) (steps steps' : List SampleStep) : Type 0 where
+  pub same : map shown_by steps' ≡ map shown_by steps
+  pub opened : Kept plan start steps → IsTrue (is_ordered plan.root plan.block start) → openings_of steps' ≤ openings_of steps + opened_in_all plan start steps
 
 -- What a list of updates comes to: the last database, the directories reached in the last step, and the openings, where the
 -- database before the first step is in order; and that all steps have passed.

@@ -13,11 +13,11 @@ returns-in_default-put_all-clause-stopped c = λ kept. memory_stops (plan_of c.a
 
 pub update_step-requires-clause-steady : goal.update_step-requires-clause-steady
 update_step-requires-clause-steady c =
-    (next_ready _ _ _ _ _ _ c.loop-step.steps c.loop-step.step-index c.step-item.result (let more = c.loop-step-test.true in let same = c.loop-step.auto.steps in omega (arith, more, same)) c.loop-step.invariant).steady
+    (next_ready _ _ _ _ _ _ c.loop-step.steps c.loop-step.step-index c.step-item.result (let more = c.loop-step-test.true in let same = c.loop-step.auto.steps in omega (arith, more, same)) c.loop-step.invariant.1).steady
 
 pub update_step-requires-clause-openings : goal.update_step-requires-clause-openings
 update_step-requires-clause-openings c =
-    (next_ready _ _ _ _ _ _ c.loop-step.steps c.loop-step.step-index c.step-item.result (let more = c.loop-step-test.true in let same = c.loop-step.auto.steps in omega (arith, more, same)) c.loop-step.invariant).openings
+    (next_ready _ _ _ _ _ _ c.loop-step.steps c.loop-step.step-index c.step-item.result (let more = c.loop-step-test.true in let same = c.loop-step.auto.steps in omega (arith, more, same)) c.loop-step.invariant.1).openings
 
 pub returns-in-Err-clause-stopped : goal.returns-in-Err-clause-stopped
 returns-in-Err-clause-stopped c =
@@ -25,7 +25,7 @@ returns-in-Err-clause-stopped c =
     let within : c.loop-step.step-index < length c.loop-step.steps = (let more = c.loop-step-test.true in let same = c.loop-step.auto.steps in omega (arith, more, same)) in
     let step : SampleStep = get_or c.loop-step.steps c.loop-step.step-index c.step-item.result in
     stands_stopped plan c.args.start.now c.args.steps.now c.loop-step.old.held.pending c.loop-step.directories c.loop-step.openings _ _ c.in-Err.fault
-    (stands_at plan c.args.start.now c.args.steps.now c.loop-step.old.held.pending c.loop-step.directories c.loop-step.openings c.loop-step.steps c.loop-step.step-index c.step-item.result within c.loop-step.invariant)
+    (stands_at plan c.args.start.now c.args.steps.now c.loop-step.old.held.pending c.loop-step.directories c.loop-step.openings c.loop-step.steps c.loop-step.step-index c.step-item.result within c.loop-step.invariant.1)
     (subst (λ (old : List ℕ). IsHonest plan old step.tree.dirs → Refuses plan old step.tree.dirs c.in-Err.fault) c.pending.ensures c.in-Err.ensures.refused)
 
 pub loop-step-preserved : goal.loop-step-preserved
@@ -34,5 +34,5 @@ loop-step-preserved c =
     let within : c.loop-step.step-index < length c.loop-step.steps = (let more = c.loop-step-test.true in let same = c.loop-step.auto.steps in omega (arith, more, same)) in
     let step : SampleStep = get_or c.loop-step.steps c.loop-step.step-index c.step-item.result in
     stands_on plan c.args.start.now c.args.steps.now c.loop-step.old.held.pending c.loop-step.directories c.loop-step.openings c.loop-step.steps c.loop-step.step-index c.step-item.result c.update_step.new.step c.in-Ok-update_step.counts c.update_step.new.into.held.pending
-    (record { root = c.requires.root; version = c.requires.version; block = c.requires.block }) within c.loop-step.invariant c.in-Ok-update_step.ensures.few
+    (record { root = c.requires.root; version = c.requires.version; block = c.requires.block }) within c.loop-step.invariant.1 c.in-Ok-update_step.ensures.few
     (subst (λ (old : List ℕ). IsHonest plan old step.tree.dirs → Updates plan old step c.in-Ok-update_step.counts c.update_step.new.into.held.pending) c.pending.ensures c.in-Ok-update_step.ensures.done)

@@ -30,4 +30,4 @@ returns-in-Err-clause-refused c =
     (subst (λ (s : Lent). OpensKnown plan.root c.args.block.now (Some s.left) cursor left) c.new-source.ensures c.open_on-voucher.ensures.opened) in
     refused plan c.args.old.now c.args.step.now.tree.dirs _ _ c.standard.result c.in-Err.fault c.fault_of_scan.result
     (opened plan c.args.old.now left cursor c.scan-scanned.new.voucher.cursor opens c.open_on-voucher.ensures.broke c.scan-scanned.ensures.voucher_kept.2.unbroken)
-    c.standard.ensures c.fault_of_scan.ensures c.in-Err.ensures.found c.in-Err.ensures.exceeded
+    c.standard.ensures c.fault_of_scan.ensures c.in-Err.ensures.found c.in-Err.ensures.exceeded c.in-Err.ensures.lacking
