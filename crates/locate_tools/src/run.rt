@@ -218,14 +218,14 @@ fn run_exercise<P: BufferedSink, E: Sink>(
     ended(alloc, err, Some(Tool::Exercise), b"", cause)
 }
 
-/// Does what the words ask for. `updatedb` stores a complete scan of a tree under the name of its output; on any cause
-/// other than `Done` the stored files are unchanged. `locate` prints the paths of its databases that match, or writes their
-/// statistics, and, unless it is told to be quiet, reports on `err` each database that is missing, no database, damaged, too
-/// large or failed; all its memory is taken before the first is opened. What was written to `out` is passed on after each
-/// database, and before a message about it. `convert` stores the paths of its input in another format under the name of its
-/// output, which may be the same; on any cause other than `Done` the stored files are unchanged. `exercise` updates a sample of trees
-/// that it keeps in memory, and prints what that comes to. A cause other than `Done` and `NoMatch` is reported on `err`. A failed write to
-/// `err` does not affect the result; nothing more is written there.
+/// Does what the words ask for. `updatedb` stores a complete scan of a tree under the name of its output. `locate` prints the
+/// matching paths of its databases, or writes their statistics, and, unless it is told to be quiet, reports on `err` each
+/// database that is missing, not a database, damaged or too large, or that could not be read or checked; all its memory is
+/// taken before the first is opened. `convert` stores the paths of its input, in the format asked for, under the name of its
+/// output, which may be the input. `exercise` updates a sample of trees in memory, and prints four totals. On any cause other
+/// than `Done`, `updatedb` and `convert` leave the stored files as they were. What was written to `out` is passed on after
+/// each database. A cause other than `Done` and `NoMatch` is reported on `err`; if a write there fails, a first part of the
+/// messages was taken, and no more are written.
 pub fn run<R: Reader, T: Tree, G: Gate, O: Output, P: BufferedSink, E: Sink>(
     alloc: Global,
     call: &Call,
