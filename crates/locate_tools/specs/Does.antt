@@ -105,7 +105,7 @@ pub record LeavesConvert (cause : Cause) (tree gate output out : Type 0) : Type 
   pub out_same : out
   pub unwritten : cause ≢ causes.Done → cause ≢ causes.WriteFault → output
 
--- `exercise` touches nothing but standard output, and where memory ran out not even that.
+-- Of the reader, the tree, the gate, the output and standard output, `exercise` touches the last alone, and none where memory ran out.
 pub record LeavesExercise (cause : Cause) (reader tree gate output out : Type 0) : Type 0 where
   pub reader_same : reader
   pub tree_same : tree

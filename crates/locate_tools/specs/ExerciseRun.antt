@@ -46,7 +46,7 @@ Ends causes.OutOfMemory o o' = o' ≡ o
 Ends cause o o' = ⊥
 
 -- A run of `exercise` that ended so: if it is done, the text of the exercise was written and has gone out; if a write failed, a
--- first part of it was written; if memory ran out, nothing. It ends in no other way.
+-- first part of it, perhaps all, was written; if memory ran out, nothing. It ends in no other way.
 pub record ExerciseRun (asked : ExerciseAsked) (o o' : Written) (cause : Cause) : Type 0 where
   pub printed : cause ≡ causes.Done → Appends o.taken o'.taken (text_asked asked)
   pub printed_part : AppendsPart o.taken o'.taken (text_asked asked)

@@ -16,7 +16,7 @@ use Rattle.update_runs.specs.declared.outcome.ListFault.TheVariants as list
 use Rattle.update_runs.specs.declared.single.StepCounts.{StepCounts}
 use Rattle.update_runs.specs.Faults.{in_scan}
 
--- what an update leaves of a step: its moment and the directories of its tree
+-- what an update leaves as it was in a step: its moment and the directories of its tree
 abbrev pub shown_by : SampleStep → Moment × Dirs
 shown_by step = (step.now, step.tree.dirs)
 
@@ -38,8 +38,8 @@ pub record Passes (plan : Plan) (old : List ℕ) (dirs : Dirs) : Type 0 where
   pub few : length (tried dirs plan.pruned plan.root) ≤ 4294967295
   pub narrow : Narrow 16777216 (unvouched (records plan.root plan.block old) plan (reached dirs plan.pruned plan.root))
 
--- What a fault tells: the root is missing, or a limit is passed; that memory ran out tells nothing. That too many names are
--- listed where no record vouches is known of an old database that is in order. A missing root is told, unless memory runs out.
+-- What a fault tells: the root is missing, or a limit is passed; that memory ran out tells nothing. That too many names are listed
+-- where no record vouches is known only if the old database is in order. A missing root is told, unless memory runs out.
 pub record Refuses (plan : Plan) (old : List ℕ) (dirs : Dirs) (fault : ListFault) : Type 0 where
   pub found : Found (in_scan fault) usual plan.root dirs
   pub lacking : get dirs plan.root ≡ None → (fault ≡ list.RootMissing) ⊎ (fault ≡ list.OutOfMemory)

@@ -31,7 +31,7 @@ pub fn update_list(
     ensures counted { IfOk result (λ list. openings_of steps.new ≡ openings_of steps.old + list.openings) }
     ensures asks { Asks (plan_of rules.now) start.now steps.old steps.new }
     ensures seen { IfErr result (λ fault. IsSeen fault rules.now.root (trees_of steps.old)) }
-    ensures stopped { IfErr result (λ fault. Kept (plan_of rules.now) start.now steps.old → StopsAt fault (plan_of rules.now) start.now steps.old) }
+    ensures stopped { IfErr result (λ fault. StopsAt fault (plan_of rules.now) start.now steps.old) }
 {
     let Ok(block) = conf_block(alloc, &rules.conf) else {
         return Err(ListFault::OutOfMemory);

@@ -22,7 +22,7 @@ pub(crate) struct StepCounts {
     pub(crate) directories: u64,
 }
 
-/// The answer to a scan's fault. A write to memory fails only where that runs out.
+/// The answer to a scan's fault. A write to memory fails only if memory runs out.
 fn fault_of_scan(fault: ScanFault) -> ListFault
     ensures { result ≡ fault_of fault }
 {

@@ -6,10 +6,10 @@ use Rattle.update_runs.proofs.Stands.{memory_stops, next_ready, stands_at, stand
 use Rattle.update_runs.proofs.list.update_list.Goals as goal
 
 pub returns-in_default-clause-stopped : goal.returns-in_default-clause-stopped
-returns-in_default-clause-stopped c = λ kept. memory_stops (plan_of c.args.rules.now) c.args.start.now c.args.steps.now
+returns-in_default-clause-stopped c = memory_stops (plan_of c.args.rules.now) c.args.start.now c.args.steps.now
 
 pub returns-in_default-put_all-clause-stopped : goal.returns-in_default-put_all-clause-stopped
-returns-in_default-put_all-clause-stopped c = λ kept. memory_stops (plan_of c.args.rules.now) c.args.start.now c.args.steps.now
+returns-in_default-put_all-clause-stopped c = memory_stops (plan_of c.args.rules.now) c.args.start.now c.args.steps.now
 
 pub update_step-requires-clause-steady : goal.update_step-requires-clause-steady
 update_step-requires-clause-steady c =
