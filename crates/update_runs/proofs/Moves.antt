@@ -16,16 +16,16 @@ use Rattle.update_runs.specs.Runs.{Asks, IsSeen, opened_in_all, openings_of, tre
 use Rattle.update_runs.specs.Single.{IsHonest, opened_in, scan_of, shown_by}
 use Rattle.update_runs.proofs.Stands.{Stands, stands_at}
 
--- moments and directories are the same, and the trees were opened so much more often
+-- moments and directories are the same, and the trees were opened at most so much more often
 pub record Moved (all steps : List SampleStep) (openings : ℕ) : Type 0 where
   pub same : map shown_by steps ≡ map shown_by all
-  pub counted : openings_of steps ≡ openings_of all + openings
+  pub counted : openings_of steps ≤ openings_of all + openings
 
 pub moved_first : (all : List SampleStep) → Moved all all 0
 moved_first all = record { same = refl; counted = omega arith }
 
 pub moved_on : (all steps : List SampleStep) (openings at n : ℕ) (d used : SampleStep) → at < length steps → Moved all steps openings → shown_by used ≡ shown_by (get_or steps at d)
-    → used.tree.openings ≡ (get_or steps at d).tree.openings + n → Moved all (set steps at used) (openings + n)
+    → used.tree.openings ≤ (get_or steps at d).tree.openings + n → Moved all (set steps at used) (openings + n)
 moved_on all steps openings at n d used h moved shows more =
     let sum = sum_by-set (λ (step : SampleStep). step.tree.openings) steps at used d h in
     let before = moved.counted in

@@ -94,8 +94,8 @@ asked plan old dirs rs all priced o o' times times' opens asks honest ordered =
     let did : AskedOf (records plan.root plan.block old) all dirs plan priced o o' times times' = subst (λ (x : List Record). AskedOf x all dirs plan priced o o' times times') (ap known_of opens.told) (asks dirs refl h) in
     did.unvouched_alone (subst (λ (b : Bool). IsTrue b) (sym opens.whole) ordered)
 
-pub risen : (opened o o' : ℕ) → opened ≡ o' - o → o ≤ o' → o' ≡ o + opened
-risen opened o o' e k = omega (arith, e, k)
+pub risen : (opened o o' : ℕ) → opened ≡ o' - o → o' ≤ o + opened
+risen opened o o' e = omega (arith, e)
 
 -- ---- it was refused
 
@@ -124,9 +124,14 @@ found_of limits f fault root dirs is said found =
 abbrev failed : ScanFault → Result Counts ScanFault
 failed f = Err f
 
+-- the answer to that of a scan; one that was done has none
+abbrev fault_in : Result Counts ScanFault → ListFault
+fault_in (Ok counts) = list.OutOfMemory
+fault_in (Err f) = fault_of f
+
 lacks : (f : ScanFault) → IsErrOf (failed f) scan.RootMissing ⊎ IsErrOf (failed f) scan.TreeFault → (fault_of f ≡ list.RootMissing) ⊎ (fault_of f ≡ list.OutOfMemory)
-lacks f (inl e) = inl (ap fault_of e)
-lacks f (inr e) = inr (ap fault_of e)
+lacks f (inl e) = inl (ap fault_in e)
+lacks f (inr e) = inr (ap fault_in e)
 
 pub refused : (plan : Plan) (old : List ℕ) (dirs : Dirs) (rs : Option (List Record)) (all : Bool) (limits : Limits) (f : ScanFault) (fault : ListFault) → Opened plan old rs all → limits ≡ usual → fault ≡ fault_of f
     → ((d : Dirs) → Some dirs ≡ Some d → Found f limits plan.root d) → WhereKnown (Some dirs) rs plan (λ d records. Exceeded f limits records all d plan)

@@ -28,7 +28,7 @@ pub fn update_list(
     requires count { length steps.old ≤ 4294967295 }
     requires ready { All IsReady steps.old }
     ensures done { IfOk result (λ list. Kept (plan_of rules.now) start.now steps.old → Comes (plan_of rules.now) start.now steps.old list) }
-    ensures counted { IfOk result (λ list. openings_of steps.new ≡ openings_of steps.old + list.openings) }
+    ensures counted { IfOk result (λ list. openings_of steps.new ≤ openings_of steps.old + list.openings) }
     ensures asks { Asks (plan_of rules.now) start.now steps.old steps.new }
     ensures seen { IfErr result (λ fault. IsSeen fault rules.now.root (trees_of steps.old)) }
     ensures stopped { IfErr result (λ fault. StopsAt fault (plan_of rules.now) start.now steps.old) }

@@ -54,7 +54,7 @@ pub(crate) fn update_step(
     requires empty { into.old.held.pending ≡ [] }
     ensures done { IfOk result (λ counts. IsHonest (plan_of rules.now) old.now step.old.tree.dirs → Updates (plan_of rules.now) old.now step.old counts into.new.held.pending) }
     ensures few { IfOk result (λ counts. counts.opened ≤ 4294967295) }
-    ensures counted { IfOk result (λ counts. step.new.tree.openings ≡ step.old.tree.openings + counts.opened) }
+    ensures counted { IfOk result (λ counts. step.new.tree.openings ≤ step.old.tree.openings + counts.opened) }
     ensures asked { IsHonest (plan_of rules.now) old.now step.old.tree.dirs → IsTrue (is_ordered (plan_of rules.now).root (plan_of rules.now).block old.now) → step.new.tree.openings ≤ step.old.tree.openings + opened_in (plan_of rules.now) old.now step.old.tree.dirs }
     ensures same { shown_by step.new ≡ shown_by step.old }
     ensures found { IfErr result (λ fault. Found (in_scan fault) usual rules.now.root step.old.tree.dirs) }

@@ -1,4 +1,4 @@
-use Rattle.std.proofs.Common.{◌×◌, drop}
+use Rattle.std.proofs.Common.{drop}
 use Rattle.tree_scan.specs.Plans.{plan_of}
 use Rattle.update_runs.proofs.Moves.{Moved}
 use Rattle.update_runs.proofs.Stands.{Stands}
