@@ -13,7 +13,7 @@ use Rattle.dir_reuse.specs.Usable.{is_ordered}
 use Rattle.update_runs.specs.declared.outcome.ListFault.{ListFault}
 use Rattle.update_runs.specs.Faults.{in_scan}
 use Rattle.update_runs.specs.Runs.{Asks, IsSeen, opened_in_all, openings_of, trees_of}
-use Rattle.update_runs.specs.Single.{IsHonest, opened_in, scan_of, shown_by}
+use Rattle.update_runs.specs.Single.{IsHonest, opened_in, openings_in, scan_of, shown_by}
 use Rattle.update_runs.proofs.Stands.{Stands, stands_at}
 
 -- moments and directories are the same, and the trees were opened at most so much more often
@@ -25,9 +25,9 @@ pub moved_first : (all : List SampleStep) → Moved all all 0
 moved_first all = record { same = refl; counted = omega arith }
 
 pub moved_on : (all steps : List SampleStep) (openings at n : ℕ) (d used : SampleStep) → at < length steps → Moved all steps openings → shown_by used ≡ shown_by (get_or steps at d)
-    → used.tree.openings ≤ (get_or steps at d).tree.openings + n → Moved all (set steps at used) (openings + n)
+    → openings_in used ≤ openings_in (get_or steps at d) + n → Moved all (set steps at used) (openings + n)
 moved_on all steps openings at n d used h moved shows more =
-    let sum = sum_by-set (λ (step : SampleStep). step.tree.openings) steps at used d h in
+    let sum = sum_by-set openings_in steps at used d h in
     let before = moved.counted in
     record { same = map-set_same shown_by steps at used d shows ∙ moved.same; counted = omega (arith, sum, before, more) }
 
@@ -44,7 +44,7 @@ asks_done plan start all old directories openings steps stands moved = record {
 
 pub asks_stopped : (plan : Plan) (start : List ℕ) (all : List SampleStep) (old : List ℕ) (directories openings : ℕ) (steps : List SampleStep) (at : ℕ) (d used : SampleStep) → at < length steps
     → Stands plan start all old directories openings (drop at steps) → Moved all steps openings → shown_by used ≡ shown_by (get_or steps at d)
-    → (IsHonest plan old (get_or steps at d).tree.dirs → IsTrue (is_ordered plan.root plan.block old) → used.tree.openings ≤ (get_or steps at d).tree.openings + opened_in plan old (get_or steps at d).tree.dirs)
+    → (IsHonest plan old (get_or steps at d).tree.dirs → IsTrue (is_ordered plan.root plan.block old) → openings_in used ≤ openings_in (get_or steps at d) + opened_in plan old (get_or steps at d).tree.dirs)
     → Asks plan start all (set steps at used)
 asks_stopped plan start all old directories openings steps at d used h stands moved shows asked = record {
   same = map-set_same shown_by steps at used d shows ∙ moved.same;
@@ -53,7 +53,7 @@ asks_stopped plan start all old directories openings steps at d used h stands mo
       let known = (stands_at plan start all old directories openings steps at d h stands).known kept in
       let few = asked known.kept.0 (known.ordered ordered) in
       let all_sum : opened_in_all plan start all ≡ openings + (opened_in plan old step.tree.dirs + opened_in_all plan (scan_of plan step) (drop (at + 1) steps)) = known.sum ordered in
-      let sum = sum_by-set (λ (s : SampleStep). s.tree.openings) steps at used d h in
+      let sum = sum_by-set openings_in steps at used d h in
       let before = moved.counted in
       omega (arith, few, all_sum, sum, before);
 }

@@ -11,7 +11,7 @@ use Rattle.update_runs.specs.declared.outcome.ListFault.{ListFault}
 use Rattle.update_runs.specs.declared.outcome.ListFault.TheVariants.{OutOfMemory}
 use Rattle.update_runs.specs.declared.outcome.ListResult.{ListResult}
 use Rattle.update_runs.specs.Faults.{in_scan}
-use Rattle.update_runs.specs.Single.{IsHonest, Passes, Refuses, opened_in, scan_of, shown_by}
+use Rattle.update_runs.specs.Single.{IsHonest, Passes, Refuses, opened_in, openings_in, scan_of, shown_by}
 
 -- a step in whose tree no call is set to fail, and directories were opened at most 2^63 times so far
 pub record IsReady (step : SampleStep) : Type 0 where
@@ -63,7 +63,7 @@ trees_of steps = map (λ step. step.tree.dirs) steps
 
 -- how often directories of these steps' trees were opened
 abbrev pub openings_of : List SampleStep → ℕ
-openings_of steps = sum_by (λ step. step.tree.openings) steps
+openings_of steps = sum_by openings_in steps
 
 -- What a list of updates does with its steps: moments and directories stay, and, if the old databases can be relied on and the first
 -- is in order, no more directories are opened than all steps need.

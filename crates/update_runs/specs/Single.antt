@@ -1,7 +1,8 @@
 -- One update, over an old database.
-use Rattle.std.specs.Prelude.{◌≡◌, ◌≤◌, ◌⊎◌, ℕ, List, length, IsSome, IsTrue, Some, None}
+use Rattle.std.specs.Prelude.{◌≡◌, ◌≤◌, ◌⊎◌, ℕ, List, length, min, IsSome, IsTrue, Some, None}
 use Rattle.std.specs.FinMap.{get}
 use Rattle.path_order.specs.Stamp.{Moment}
+use Rattle.loc_outside.specs.Causes.{last_count}
 use Rattle.loc_outside.specs.Trees.{Dirs}
 use Rattle.sample_trees.specs.declared.step.SampleStep.{SampleStep}
 use Rattle.tree_scan.specs.Blocks.{scan_text}
@@ -19,6 +20,10 @@ use Rattle.update_runs.specs.Faults.{in_scan}
 -- what an update leaves as it was in a step: its moment and the directories of its tree
 abbrev pub shown_by : SampleStep → Moment × Dirs
 shown_by step = (step.now, step.tree.dirs)
+
+-- how often directories of a step's tree were opened, up to 2^64 - 1
+abbrev pub openings_in : SampleStep → ℕ
+openings_in step = min step.tree.openings last_count
 
 -- the database that the update of a step makes: the complete scan of its tree
 abbrev pub scan_of : Plan → SampleStep → List ℕ

@@ -2,7 +2,7 @@ use Rattle.std.proofs.Common.{◌<◌, ◌≤◌, ◌+◌, ℕ, List, IsTrue, le
 use Rattle.sample_trees.specs.declared.step.SampleStep.{SampleStep}
 use Rattle.tree_scan.specs.Plans.{plan_of}
 use Rattle.dir_reuse.specs.Usable.{is_ordered}
-use Rattle.update_runs.specs.Single.{IsHonest, Refuses, Updates, opened_in}
+use Rattle.update_runs.specs.Single.{IsHonest, Refuses, Updates, opened_in, openings_in}
 use Rattle.update_runs.proofs.Moves.{asks_stopped, moved_on, seen_at}
 use Rattle.update_runs.proofs.Stands.{memory_stops, next_ready, stands_at, stands_on, stands_stopped}
 use Rattle.update_runs.proofs.list.update_list.Goals as goal
@@ -37,7 +37,7 @@ returns-in-Err-clause-asks c =
     let step : SampleStep = get_or c.loop-step.steps c.loop-step.step-index c.step-item.result in
     asks_stopped plan c.args.start.now c.args.steps.now c.loop-step.old.held.pending c.loop-step.directories c.loop-step.openings c.loop-step.steps c.loop-step.step-index c.step-item.result c.update_step.new.step
     within c.loop-step.invariant.1 c.loop-step.invariant.0 c.update_step.ensures.same
-    (subst (λ (old : List ℕ). IsHonest plan old step.tree.dirs → IsTrue (is_ordered plan.root plan.block old) → c.update_step.new.step.tree.openings ≤ step.tree.openings + opened_in plan old step.tree.dirs) c.pending.ensures c.update_step.ensures.asked)
+    (subst (λ (old : List ℕ). IsHonest plan old step.tree.dirs → IsTrue (is_ordered plan.root plan.block old) → openings_in c.update_step.new.step ≤ openings_in step + opened_in plan old step.tree.dirs) c.pending.ensures c.update_step.ensures.asked)
 
 pub returns-in-Err-clause-seen : goal.returns-in-Err-clause-seen
 returns-in-Err-clause-seen c =
