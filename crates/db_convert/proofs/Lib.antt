@@ -8,6 +8,10 @@ pub mod Directories
 mod ReadBack
 mod Refused
 mod Example
+mod Comparing
+mod NameStarts
+mod NextAdmitted
+mod RunPlaces
 mod Sorting
 mod Turning
 mod Seeking

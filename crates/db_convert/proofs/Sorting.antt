@@ -61,10 +61,10 @@ module _ {K : Type 0} (R : K → K → Ordering) (total : IsTotalOrder R) (apart
       (λ e. list_any-from_Contains alike q (dedup (eq_by_cmp R) xs) (Contains-dedup alike equal xs q (Contains-from_any equal q xs e)))
 
   -- values that were sorted, without repeats, are that order of them
-  pub dedup_is : (xs ys : List K) → IsSorted R xs → IsPermutation ys xs → dedup (eq_by_cmp R) xs ≡ sorted_unique R ys
-  dedup_is xs ys up moved =
+  pub dedup_is : (xs ys : List K) → IsSorted R xs → ((holds : K → Bool) → list_any holds xs ≡ list_any holds ys) → dedup (eq_by_cmp R) xs ≡ sorted_unique R ys
+  dedup_is xs ys up same =
       sym (sorted_is R total apart (dedup (eq_by_cmp R) xs) ys (strictly _ (IsStrictlySortedBy-dedup total (λ x y. refl) xs up)) (λ q.
-      same_values xs q ∙ sym (list_any-IsPermutation (eq_by_cmp R q) ys xs moved)))
+      same_values xs q ∙ same (eq_by_cmp R q)))
 
 -- ---- all places of a list
 
@@ -77,16 +77,3 @@ each_place {X} f d xs = from 0 xs (λ k. ap (λ (n : ℕ). get_or xs n d) {x = k
         let here : get_or xs start d ≡ y = sym (same 0 ∙ ap (λ (n : ℕ). get_or xs n d) {x = start + 0} {y = start} (omega arith)) in
         λ i. f (here i) ∷ from (start + 1) ys (λ k.
         ap (λ (n : ℕ). get_or (y ∷ ys) n d) {x = suc k} {y = k + 1} (omega arith) ∙ same (k + 1) ∙ ap (λ (n : ℕ). get_or xs n d) {x = start + (k + 1)} {y = start + 1 + k} (omega arith)) i
-
-more_from : (start n : ℕ) → range_with_len start n ++ (start + n) ∷ [] ≡ range_with_len start (suc n)
-more_from start zero = ap (λ (k : ℕ). k ∷ []) {x = start + 0} {y = start} (omega arith)
-more_from start (suc n) =
-    ap (λ (k : ℕ). start ∷ range_with_len (start + 1) n ++ k ∷ []) {x = start + suc n} {y = start + 1 + n} (omega arith) ∙ ap (λ (l : List ℕ). start ∷ l) (more_from (start + 1) n)
-
-pub range_more : (n : ℕ) → range_with_len 0 n ++ n ∷ [] ≡ range_with_len 0 (n + 1)
-range_more n = ap (λ (k : ℕ). range_with_len 0 n ++ k ∷ []) {x = n} {y = 0 + n} (omega arith) ∙ more_from 0 n ∙ ap (range_with_len 0) {x = suc n} {y = n + 1} (omega arith)
-
-pub places_within : (n : ℕ) → All (λ k. k < n) (range_with_len 0 n)
-places_within n k d lt =
-    let len = length-range_with_len 0 n in
-    omega (arith, lt, len, get_or-range_with_len 0 n k d (omega (arith, lt, len)))

@@ -3,8 +3,10 @@ pub mod Blocks
 pub mod Conversion
 pub mod Converts
 pub mod Example
+pub mod NameStarts
 pub mod Orders
 pub mod Plans
 pub mod Reading
+pub mod Runs
 pub mod Texts
 pub mod Turns

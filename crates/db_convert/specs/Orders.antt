@@ -1,5 +1,6 @@
 -- The order in which a database of mlocate has its paths, and where a directory is among them.
 use Rattle.std.specs.Prelude.{◌≡◌, ℕ, ◌<◌, ◌-◌, Bool, true, false, List, [], length, map, All, slice_index_or}
+use Rattle.std.specs.List.{list_any}
 use Rattle.std.specs.Ordering.{is_lt}
 use Rattle.path_order.specs.Order.{path_cmp}
 use Rattle.db_convert.specs.Blocks.{Entry, entry_of, entries_of}
@@ -7,6 +8,10 @@ use Rattle.db_convert.specs.Blocks.{Entry, entry_of, entries_of}
 -- the path at a place as an entry
 abbrev pub entry_at : List (List ℕ) → ℕ → Entry
 entry_at paths place = entry_of (slice_index_or paths place [])
+
+-- the same places, in whatever order and however often
+abbrev pub HasSame : List ℕ → List ℕ → Type 0
+HasSame places others = (holds : ℕ → Bool) → list_any holds places ≡ list_any holds others
 
 -- These are the places of the paths by their entries in order, each entry once.
 pub record IsOrder (paths : List (List ℕ)) (places : List ℕ) : Type 0 where

@@ -1,18 +1,44 @@
 //! A path as its directory and its name.
-ghost use Rattle.std.specs.Prelude.{◌≡◌};
+ghost use Rattle.std.specs.Prelude.{◌≡◌, ◌+◌, drop, length};
+ghost use Rattle.std.specs.Ordering.{eq_by_cmp};
 ghost use Rattle.std.specs.Str.{bytes_eq};
+ghost use Rattle.path_order.specs.Order.{path_cmp};
 ghost use Rattle.path_order.specs.Path.{parent_of, base_of};
-ghost use Rattle.db_convert.specs.Blocks.{entry_of, entry_cmp};
+ghost use Rattle.db_convert.specs.NameStarts.{IsNameStart};
+ghost use Rattle.db_convert.specs.Blocks.{byte_cmp, entry_of, entry_cmp};
 
-use path_order::{base_start, compare_paths};
+use byte_feed::common_prefix;
+use memchr::memrchr;
+use path_order::compare_paths;
 use std::cmp::Ordering;
+
+/// The place after the last slash, or 0.
+#[inline(always)]
+fn after_slash(path: &[u8]) -> usize
+    ensures { IsNameStart path.now result }
+{
+    match memrchr(b'/', path) {
+        Some(slash) => slash + 1,
+        None => 0,
+    }
+}
+
+/// Where the path's name begins: the place after the last slash, or 0.
+#[inline(always)]
+pub(crate) fn name_start(path: &[u8]) -> usize
+    ensures start { IsNameStart path.now result }
+    ensures base { drop result path.now ≡ base_of path.now }
+    ensures place { result + length (base_of path.now) ≡ length path.now }
+{
+    after_slash(path)
+}
 
 /// The path's directory: what stands before its last slash, or the root where that is nothing.
 #[inline(always)]
 pub(crate) fn parent(path: &[u8]) -> &[u8]
     ensures { result.now ≡ parent_of path.now }
 {
-    let start = base_start(path);
+    let start = name_start(path);
     if start > 1 { &path[..start - 1] } else { b"/" }
 }
 
@@ -21,7 +47,25 @@ pub(crate) fn parent(path: &[u8]) -> &[u8]
 pub(crate) fn base(path: &[u8]) -> &[u8]
     ensures { result.now ≡ base_of path.now }
 {
-    &path[base_start(path)..]
+    &path[name_start(path)..]
+}
+
+/// Compares two texts in path order. What both begin with is passed over in blocks.
+#[inline(always)]
+pub(crate) fn compare_directories(a: &[u8], b: &[u8]) -> Ordering
+    ensures { result ≡ path_cmp a.now b.now }
+{
+    let same = common_prefix(a, b);
+    compare_paths(&a[same..], &b[same..])
+}
+
+/// Compares two texts by their bytes, in the same way.
+#[inline(always)]
+fn compare_names(a: &[u8], b: &[u8]) -> Ordering
+    ensures { result ≡ byte_cmp a.now b.now }
+{
+    let same = common_prefix(a, b);
+    a[same..].cmp(&b[same..])
 }
 
 /// Compares two paths by their directories in path order, and by their names where these are equal.
@@ -29,8 +73,16 @@ pub(crate) fn base(path: &[u8]) -> &[u8]
 pub(crate) fn compare_entries(a: &[u8], b: &[u8]) -> Ordering
     ensures { result ≡ entry_cmp (entry_of a.now) (entry_of b.now) }
 {
-    match compare_paths(parent(a), parent(b)) {
-        Ordering::Equal => base(a).cmp(&base(b)),
+    match compare_directories(parent(a), parent(b)) {
+        Ordering::Equal => compare_names(base(a), base(b)),
         other => other,
     }
+}
+
+/// Whether two paths have the same directory and the same name.
+#[inline(always)]
+pub(crate) fn is_same_entry(a: &[u8], b: &[u8]) -> bool
+    ensures { result ≡ eq_by_cmp entry_cmp (entry_of a.now) (entry_of b.now) }
+{
+    base(a) == base(b) && parent(a) == parent(b)
 }

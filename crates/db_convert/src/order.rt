@@ -1,24 +1,91 @@
 //! The order in which a database of mlocate has its paths.
-ghost use Rattle.std.specs.Prelude.{◌≡◌, OnOk, OnErr, IfOk, IsPermutation, length};
-ghost use Rattle.std.specs.List.{dedup, range_with_len};
+ghost use Rattle.std.specs.Prelude.{◌≡◌, ◌≤◌, ◌<◌, ◌++◌, OnOk, OnErr, IfOk, IsPermutation, length};
+ghost use Rattle.std.specs.List.{dedup, flat_map, range_with_len};
 ghost use Rattle.std.specs.List.Sorted.{IsSortedByKey};
 ghost use Rattle.std.specs.Ordering.{eq_by_cmp};
 ghost use Rattle.db_convert.specs.Blocks.{entry_cmp};
-ghost use Rattle.db_convert.specs.Orders.{entry_at, IsOrder};
+ghost use Rattle.db_convert.specs.Orders.{entry_at, HasSame, IsOrder};
+ghost use Rattle.db_convert.specs.Runs.{places_in};
 
-use crate::entry::compare_entries;
+use crate::entry::{compare_directories, compare_entries, is_same_entry, parent};
 use crate::paths::Paths;
 use std::alloc::{AllocError, Global};
-use std::cmp::Ordering;
 
-/// The places of all paths.
-fn all_places(alloc: Global, paths: &Paths) -> Result<Vec<usize>, AllocError>
-    ensures { IfOk result (λ places. places.items ≡ range_with_len 0 (length paths.now)) }
+/// Paths of one directory that stand side by side: the place of the first, and the one behind the last.
+#[derive(Clone, Copy)]
+pub(crate) struct Run {
+    pub(crate) first: usize,
+    pub(crate) end: usize,
+}
+
+/// The place behind the paths that stand side by side from this one on in its directory.
+fn run_end(paths: &Paths, first: usize) -> usize
+    requires { first < length paths.now }
+    ensures behind { first < result }
+    ensures within { result ≤ length paths.now }
 {
-    let mut places = Vec::new(alloc);
-    'paths: for at in 0..paths.len() {
+    let count = paths.len();
+    let dir = parent(paths.at(first));
+    let mut end = first + 1;
+    'same: while end < count && parent(paths.get(end)) == dir {
+        end += 1;
+    }
+    end
+}
+
+/// All paths in runs, one after another.
+fn all_runs(alloc: Global, paths: &Paths) -> Result<Vec<Run>, AllocError>
+    ensures { IfOk result (λ runs. flat_map places_in runs.items ≡ range_with_len 0 (length paths.now)) }
+{
+    let mut runs = Vec::new(alloc);
+    let mut first = 0;
+    'runs: while first < paths.len() {
+        let end = run_end(paths, first);
+        runs.push(Run { first, end })?;
+        first = end;
+    }
+    Ok(runs)
+}
+
+/// Puts runs in the order of their directories, where runs of the same stay as they were.
+fn sort_runs(paths: &Paths, runs: &mut Vec<Run>) -> Result<(), AllocError>
+    ensures { IsPermutation runs.old.items runs.new.items }
+{
+    runs.sort_by(|a, b| {
+        compare_directories(parent(paths.get(a.first)), parent(paths.get(b.first)))
+    })?;
+    Ok(())
+}
+
+/// Appends the places of a run.
+fn push_places(places: &mut Vec<usize>, run: Run) -> Result<(), AllocError>
+    ensures { OnOk result (places.new.items ≡ places.old.items ++ places_in run) }
+{
+    'places: for at in run.first..run.end {
         places.push(at)?;
     }
+    Ok(())
+}
+
+/// The places of all these runs.
+fn places_of(alloc: Global, runs: &[Run]) -> Result<Vec<usize>, AllocError>
+    ensures { IfOk result (λ places. places.items ≡ flat_map places_in runs.now) }
+{
+    let mut places = Vec::new(alloc);
+    'runs: for run in runs {
+        push_places(&mut places, *run)?;
+    }
+    Ok(places)
+}
+
+/// The places of all paths, by their directories in path order. Where the names of each run stand in order, they mostly do
+/// so in each directory.
+fn all_places(alloc: Global, paths: &Paths) -> Result<Vec<usize>, AllocError>
+    ensures { IfOk result (λ places. HasSame places.items (range_with_len 0 (length paths.now))) }
+{
+    let mut runs = all_runs(alloc, paths)?;
+    sort_runs(paths, &mut runs)?;
+    let places = places_of(alloc, &runs)?;
     Ok(places)
 }
 
@@ -37,7 +104,7 @@ fn drop_repeats(paths: &Paths, places: &mut Vec<usize>)
 {
     let same = |next: &mut usize, kept: &mut usize| -> bool
         ensures { (result ≡ eq_by_cmp entry_cmp (entry_at paths.entry.now next.entry.now) (entry_at paths.entry.now kept.entry.now)) × ((next.exit.now ≡ next.entry.now) × (kept.exit.now ≡ kept.entry.now)) }
-    { compare_entries(paths.get(*next), paths.get(*kept)) == Ordering::Equal };
+    { is_same_entry(paths.get(*next), paths.get(*kept)) };
     places.dedup_by(same);
 }
 

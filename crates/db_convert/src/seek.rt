@@ -3,9 +3,9 @@ ghost use Rattle.std.specs.Prelude.{◌≡◌, ◌<◌, ◌≤◌, false, length
 ghost use Rattle.db_convert.specs.Blocks.{kind_in};
 ghost use Rattle.db_convert.specs.Orders.{IsAhead, IsOrder, IsPast, is_before as before};
 
-use crate::entry::parent;
+use crate::entry::{compare_directories, parent};
 use crate::paths::Paths;
-use path_order::{Kind, compare_paths};
+use path_order::Kind;
 use std::cmp::Ordering;
 
 /// Whether the directory of the path at this place of the order comes before another.
@@ -14,7 +14,7 @@ fn is_before(paths: &Paths, places: &[usize], dir: &[u8], at: usize) -> bool
     requires { at < length places.now }
     ensures { result ≡ before paths.now places.now dir.now at }
 {
-    compare_paths(parent(paths.get(places[at])), dir) == Ordering::Less
+    compare_directories(parent(paths.get(places[at])), dir) == Ordering::Less
 }
 
 /// A place of the order that is past no more than it may be: the one that is guessed, or the first.

@@ -1,27 +1,28 @@
 use Rattle.std.proofs.Common.{◌≡◌, ℕ, ◌<◌, Bool, List, [], length, map, refl, sym, ap, subst, ◌∙◌, IsPermutation}
 use Rattle.std.proofs.lemmas.List.Filters.{All-dedup}
-use Rattle.std.proofs.lemmas.List.Sorted.{All-permutation, IsPermutation-map}
-use Rattle.std.specs.List.{All, dedup, range_with_len}
+use Rattle.std.proofs.lemmas.List.Sorted.{list_any-IsPermutation}
+use Rattle.std.specs.List.{All, dedup, list_any, range_with_len}
 use Rattle.std.specs.List.Sorted.{IsSortedByKey}
 use Rattle.std.specs.Ordering.{eq_by_cmp}
 use Rattle.db_convert.specs.Blocks.{Entry, entry_of, entry_cmp}
-use Rattle.db_convert.specs.Orders.{IsOrder, entry_at}
-use Rattle.db_convert.proofs.Directories.{entry_total, entry_apart}
-use Rattle.db_convert.proofs.Sorting.{map-dedup, sorted_keys, dedup_is, each_place, places_within}
+use Rattle.db_convert.specs.Orders.{HasSame, IsOrder, entry_at}
+use Rattle.db_convert.proofs.Directories.{any_map, entry_total, entry_apart}
+use Rattle.db_convert.proofs.RunPlaces.{same_within}
+use Rattle.db_convert.proofs.Sorting.{map-dedup, sorted_keys, dedup_is, each_place}
 use Rattle.db_convert.proofs.order.order_of.Goals as goal
 
 abbrev same : List (List ℕ) → ℕ → ℕ → Bool
 same paths next kept = eq_by_cmp entry_cmp (entry_at paths next) (entry_at paths kept)
 
-ordered : (paths : List (List ℕ)) (all sorted kept : List ℕ) → all ≡ range_with_len 0 (length paths) → IsPermutation all sorted → IsSortedByKey (entry_at paths) entry_cmp sorted → kept ≡ dedup (same paths) sorted → IsOrder paths kept
-ordered paths all sorted kept is moved up left =
-    let from : IsPermutation (range_with_len 0 (length paths)) sorted = subst (λ (l : List ℕ). IsPermutation l sorted) is moved in
-    let keys : IsPermutation (map entry_of paths) (map (entry_at paths) sorted) =
-    subst (λ (l : List Entry). IsPermutation l (map (entry_at paths) sorted)) (each_place entry_of [] paths) (IsPermutation-map (entry_at paths) (range_with_len 0 (length paths)) sorted from) in
+ordered : (paths : List (List ℕ)) (all sorted kept : List ℕ) → HasSame all (range_with_len 0 (length paths)) → IsPermutation all sorted → IsSortedByKey (entry_at paths) entry_cmp sorted → kept ≡ dedup (same paths) sorted → IsOrder paths kept
+ordered paths all sorted kept has moved up left =
+    let each : HasSame sorted (range_with_len 0 (length paths)) = λ holds. sym (list_any-IsPermutation holds all sorted moved) ∙ has holds in
+    let values : (holds : Entry → Bool) → list_any holds (map (entry_at paths) sorted) ≡ list_any holds (map entry_of paths) = λ holds.
+    any_map holds (entry_at paths) sorted ∙ each (λ place. holds (entry_at paths place)) ∙ sym (any_map holds (entry_at paths) (range_with_len 0 (length paths))) ∙ ap (list_any holds) (each_place entry_of [] paths) in
     record {
-      within = subst (λ (l : List ℕ). All (λ k. k < length paths) l) (sym left) (All-dedup (same paths) (λ k. k < length paths) sorted (All-permutation (λ k. k < length paths) (range_with_len 0 (length paths)) sorted from (places_within (length paths))));
+      within = subst (λ (l : List ℕ). All (λ k. k < length paths) l) (sym left) (All-dedup (same paths) (λ k. k < length paths) sorted (same_within (length paths) sorted each));
       ordered = ap (map (entry_at paths)) left ∙ map-dedup (entry_at paths) (eq_by_cmp entry_cmp) sorted
-          ∙ dedup_is entry_cmp entry_total entry_apart (map (entry_at paths) sorted) (map entry_of paths) (sorted_keys entry_cmp (entry_at paths) sorted up) keys;
+          ∙ dedup_is entry_cmp entry_total entry_apart (map (entry_at paths) sorted) (map entry_of paths) (sorted_keys entry_cmp (entry_at paths) sorted up) values;
     }
 
 pub returns : goal.returns
