@@ -48,8 +48,9 @@ pub loop-step-preserved : goal.loop-step-preserved
 loop-step-preserved c =
     let plan = plan_of c.args.rules.now in
     let within : c.loop-step.step-index < length c.loop-step.steps = (let more = c.loop-step-test.true in let same = c.loop-step.auto.steps in omega (arith, more, same)) in
-    let step : SampleStep = get_or c.loop-step.steps c.loop-step.step-index c.step-item.result in
-    (moved_on c.args.steps.now c.loop-step.steps c.loop-step.openings c.loop-step.step-index c.in-Ok-update_step.counts.opened c.step-item.result c.update_step.new.step within c.loop-step.invariant.0 c.update_step.ensures.same c.in-Ok-update_step.ensures.counted,
-    stands_on plan c.args.start.now c.args.steps.now c.loop-step.old.held.pending c.loop-step.directories c.loop-step.openings c.loop-step.steps c.loop-step.step-index c.step-item.result c.update_step.new.step c.in-Ok-update_step.counts c.update_step.new.into.held.pending
-    (record { root = c.requires.root; version = c.requires.version; block = c.requires.block }) within c.loop-step.invariant.1 c.in-Ok-update_step.ensures.few
-    (subst (λ (old : List ℕ). IsHonest plan old step.tree.dirs → Updates plan old step c.in-Ok-update_step.counts c.update_step.new.into.held.pending) c.pending.ensures c.in-Ok-update_step.ensures.done))
+    let step : SampleStep = get_or c.loop-step.steps c.loop-step.step-index c.step-item.result in (
+      moved_on c.args.steps.now c.loop-step.steps c.loop-step.openings c.loop-step.step-index c.in-Ok-update_step.counts.opened c.step-item.result c.update_step.new.step within c.loop-step.invariant.0 c.update_step.ensures.same c.in-Ok-update_step.ensures.counted,
+      stands_on plan c.args.start.now c.args.steps.now c.loop-step.old.held.pending c.loop-step.directories c.loop-step.openings c.loop-step.steps c.loop-step.step-index c.step-item.result c.update_step.new.step c.in-Ok-update_step.counts c.update_step.new.into.held.pending
+          (record { root = c.requires.root; version = c.requires.version; block = c.requires.block }) within c.loop-step.invariant.1 c.in-Ok-update_step.ensures.few
+          (subst (λ (old : List ℕ). IsHonest plan old step.tree.dirs → Updates plan old step c.in-Ok-update_step.counts c.update_step.new.into.held.pending) c.pending.ensures c.in-Ok-update_step.ensures.done),
+    )
