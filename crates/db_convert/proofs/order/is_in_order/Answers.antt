@@ -1,4 +1,4 @@
-use Rattle.std.proofs.Common.{ap, sym, ◌∙◌, is_lt, arith}
+use Rattle.std.proofs.Common.{sym, ◌∙◌, is_lt}
 use Rattle.db_convert.specs.Blocks.{entry_cmp, entry_of}
 use Rattle.db_convert.proofs.Sorting.{rises_more}
 use Rattle.db_convert.proofs.order.is_in_order.Goals as goal
