@@ -1,11 +1,9 @@
 -- What a conversion does, by where it ended.
-use Rattle.std.proofs.Common.{◌≡◌, ℕ, ◌+◌, ◌^◌, ◌≤◌, ◌⊎◌, Bool, true, false, All, List, length, Option, Some, None, Result, Ok, Err, inl, inr, refl, sym, ap, subst, ◌∙◌}
-use Rattle.std.specs.Prelude.{◌≢◌, IsErrAnd, IsOk, IsOkUnless, IsTrue, option_map}
+use Rattle.std.proofs.Common.{◌≡◌, ℕ, ◌+◌, ◌^◌, ◌≤◌, ◌⊎◌, true, false, All, List, length, Option, Some, None, Result, Ok, Err, inl, inr, refl, sym, ap, subst, ◌∙◌}
+use Rattle.std.specs.Prelude.{◌≢◌, IsOk, IsTrue, option_map}
 use Rattle.std.specs.FinMap.{get}
 use Rattle.loc_outside.specs.Causes.{Rose, raised}
 use Rattle.loc_outside.specs.Files.{Files}
-use Rattle.loc_outside.specs.Held.{Held}
-use Rattle.byte_feed.specs.Front as feed
 use Rattle.byte_feed.specs.Paths.{IsPath}
 use Rattle.db_convert.specs.declared.format.Format.{Format}
 use Rattle.db_convert.specs.declared.format.AdmitCause.{AdmitCause}
@@ -13,7 +11,7 @@ use Rattle.db_convert.specs.declared.fault.ConvertFault.{ConvertFault}
 use Rattle.db_convert.specs.declared.fault.ConvertFault.TheVariants.{Missing, NotADatabase, Damage, ReadFault, TooLarge, NotAdmitted, WriteFault, OutOfMemory}
 use Rattle.db_convert.specs.Admission.{first_refused}
 use Rattle.db_convert.specs.Conversion.{encode}
-use Rattle.db_convert.specs.Converts.{AfterFault, Around, Asked, Bounded, Caused, ConvertDoes, IsAccepted, PendsPart, Required, Stored, WhereTold, admitted_to, is_of_reading, is_refusal, none_or_fault, paths_in, read_found, size_of, stored_in, then_admitted, with_file}
+use Rattle.db_convert.specs.Converts.{Around, Asked, ConvertDoes, PendsPart, Required, WhereTold, admitted_to, is_of_reading, is_refusal, none_or_fault, paths_in, read_found, size_of, stored_in, then_admitted, with_file}
 use Rattle.db_convert.proofs.ReadBack.{all_back}
 
 abbrev Paths : Type 0

@@ -1,6 +1,6 @@
 -- Where a directory is among entries in order.
-use Rattle.std.proofs.Common.{◌≡◌, ℕ, zero, suc, ◌+◌, ◌-◌, ◌<◌, ◌≤◌, Bool, true, false, cond, true≢false, List, [], ◌∷◌, map, length, get_or, refl, sym, ap, subst, ◌∙◌, arith, is_lt, is_eq, Ordering, Less, Equal, Greater, Contains}
-use Rattle.std.specs.Ordering.{eq_by_cmp, ordering_then, ordering_reverse}
+use Rattle.std.proofs.Common.{◌≡◌, ℕ, zero, suc, ◌-◌, ◌<◌, ◌≤◌, Bool, true, false, cond, true≢false, List, [], ◌∷◌, map, length, get_or, refl, sym, ap, subst, ◌∙◌, arith, is_lt, is_eq, Ordering, Less, Equal, Greater, Contains}
+use Rattle.std.specs.Ordering.{eq_by_cmp, ordering_then}
 use Rattle.std.specs.List.{list_any}
 use Rattle.std.specs.Str.{bytes_eq}
 use Rattle.std.specs.Cmp.{IsTotalOrder, both_ways, Equal-is, tied_itself}
@@ -11,12 +11,11 @@ use Rattle.std.proofs.lemmas.List.{length-map, get_or-map, get_or_default}
 use Rattle.std.proofs.lemmas.List.Folds.{list_any_at, Any-from_list_any}
 use Rattle.std.proofs.lemmas.Map.Views.{Contains-from_any}
 use Rattle.std.proofs.lemmas.Slice.Eq.{bytes_eq-Decides}
-use Rattle.path_order.specs.declared.kind.Kind.{Kind}
 use Rattle.path_order.specs.declared.kind.Kind.TheVariants.{File, Directory}
-use Rattle.path_order.specs.Path.{parent_of, base_of}
+use Rattle.path_order.specs.Path.{parent_of}
 use Rattle.path_order.specs.Order.{path_cmp}
 use Rattle.path_order.proofs.OrderLemmas.{path_total, path_same, path_cmp_refl}
-use Rattle.db_convert.specs.Blocks.{Entry, sorted_unique, byte_cmp, entry_of, entry_cmp, entries_of, kind_in}
+use Rattle.db_convert.specs.Blocks.{Entry, byte_cmp, entry_of, entry_cmp, entries_of, kind_in}
 use Rattle.db_convert.specs.Orders.{IsOrder, IsPast, IsAhead, entry_at, is_before}
 use Rattle.db_convert.proofs.Directories.{Below, Sorted, among, first, second, entry_total, entry_apart, any_map, sorted_unique_is_sorted, sorted_unique_among}
 

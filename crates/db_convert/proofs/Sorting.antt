@@ -1,19 +1,19 @@
 -- A sorted list without repeats.
-use Rattle.std.proofs.Common.{◌≡◌, ℕ, zero, suc, ◌+◌, ◌<◌, Bool, true, false, cond, List, [], ◌∷◌, ◌++◌, length, get_or, map, refl, sym, ◌∙◌, ap, subst, arith, IsPermutation, Ordering, Less, is_lt, Contains}
-use Rattle.std.specs.Prelude.{◌&&◌}
+use Rattle.std.proofs.Common.{◌≡◌, ℕ, suc, ◌+◌, ◌-◌, ◌<◌, ◌≤◌, Bool, true, false, cond, List, [], ◌∷◌, length, get_or, map, refl, sym, ◌∙◌, ap, arith, Ordering, Less, Equal, Greater, is_lt, is_eq}
+use Rattle.std.specs.Prelude.{nat_lt}
+use Rattle.std.proofs.lemmas.Bool.{ltb-true, ltb-false}
 use Rattle.std.proofs.lemmas.Cmp.{eq_by_cmp_equiv}
-use Rattle.std.proofs.lemmas.List.{length-map, get_or-map}
-use Rattle.std.proofs.lemmas.List.FromFn.{length-range_with_len, get_or-range_with_len}
+use Rattle.std.proofs.lemmas.List.{length-map, get_or-map, get_or_default}
 use Rattle.std.proofs.lemmas.List.Kept.{Contains-dedup, Contains-from_dedup, IsStrictlySortedBy-dedup}
-use Rattle.std.proofs.lemmas.List.Sorted.{list_any-IsPermutation}
 use Rattle.std.proofs.lemmas.Map.Views.{list_any-from_Contains, Contains-from_any}
 use Rattle.std.specs.Cmp.{IsTotalOrder, both_ways, Equal-is}
 use Rattle.std.specs.FinMap.{IsAntisymmetric}
-use Rattle.std.specs.FinMap.Entries.{below_all, is_sorted}
-use Rattle.std.specs.List.{All, AllByRecursion, dedup_from, dedup, list_any, range_with_len}
+use Rattle.std.specs.FinMap.Entries.{below_all}
+use Rattle.std.specs.List.{AllByRecursion, dedup_from, dedup, list_any, range_with_len}
 use Rattle.std.specs.List.Sorted.{IsSorted, IsSortedByKey, IsStrictlySortedBy}
-use Rattle.std.specs.Ordering.{eq_by_cmp}
-use Rattle.db_convert.specs.Blocks.{sorted_unique}
+use Rattle.std.specs.Ordering.{eq_by_cmp, ordering_reverse}
+use Rattle.db_convert.specs.Blocks.{entry_cmp, sorted_unique}
+use Rattle.db_convert.specs.Orders.{Rises, entry_at}
 use Rattle.db_convert.proofs.Directories.{marked, Sorted, among, sorted_is}
 
 -- ---- what elements stand for
@@ -77,3 +77,45 @@ each_place {X} f d xs = from 0 xs (λ k. ap (λ (n : ℕ). get_or xs n d) {x = k
         let here : get_or xs start d ≡ y = sym (same 0 ∙ ap (λ (n : ℕ). get_or xs n d) {x = start + 0} {y = start} (omega arith)) in
         λ i. f (here i) ∷ from (start + 1) ys (λ k.
         ap (λ (n : ℕ). get_or (y ∷ ys) n d) {x = suc k} {y = k + 1} (omega arith) ∙ same (k + 1) ∙ ap (λ (n : ℕ). get_or xs n d) {x = start + (k + 1)} {y = start + 1 + k} (omega arith)) i
+
+-- ---- values that rise
+
+-- where each is below the next, nothing is dropped
+pub none_dropped : {K : Type 0} (R : K → K → Ordering) → IsTotalOrder R → (f : ℕ → K) (kept : ℕ) (xs : List ℕ)
+    → ((k : ℕ) → k + 1 < length (kept ∷ xs) → is_lt (R (f (get_or (kept ∷ xs) k 0)) (f (get_or (kept ∷ xs) (k + 1) 0))) ≡ true)
+    → dedup_from (λ next last. eq_by_cmp R (f next) (f last)) kept xs ≡ kept ∷ xs
+none_dropped R total f kept [] up = refl
+none_dropped R total f kept (x ∷ xs) up =
+    let apart : eq_by_cmp R (f x) (f kept) ≡ false = ap is_eq (total.antisymm (f x) (f kept)) ∙ turned (R (f kept) (f x)) (up 0 (omega arith)) in
+    ap (λ (b : Bool). cond b (dedup_from (λ next last. eq_by_cmp R (f next) (f last)) kept xs) (kept ∷ dedup_from (λ next last. eq_by_cmp R (f next) (f last)) x xs)) apart
+    ∙ ap (λ (l : List ℕ). kept ∷ l) (none_dropped R total f x xs (λ k lt. ap (λ (n : ℕ). is_lt (R (f (get_or (x ∷ xs) k 0)) (f (get_or (kept ∷ x ∷ xs) n 0)))) {x = suc (k + 1)} {y = suc k + 1} (omega arith) ∙ up (suc k) (omega (arith, lt))))
+  where
+    turned : (o : Ordering) → is_lt o ≡ true → is_eq (ordering_reverse o) ≡ false
+    turned Less e = refl
+    turned Equal e = absurd cc
+    turned Greater e = refl
+
+-- and they are sorted
+pub rises_sorted : {K : Type 0} (R : K → K → Ordering) → IsTotalOrder R → (f : ℕ → K) (xs : List ℕ)
+    → ((k : ℕ) → k + 1 < length xs → is_lt (R (f (get_or xs k 0)) (f (get_or xs (k + 1) 0))) ≡ true) → IsSortedByKey f R xs
+rises_sorted R total f xs up k d low high =
+    let next : get_or xs (k + 1) d ≡ get_or xs (k + 1) 0 = get_or_default xs (k + 1) d 0 (omega (arith, high)) in
+    let here : get_or xs k d ≡ get_or xs k 0 = get_or_default xs k d 0 (omega (arith, high)) in
+    (λ i. is_lt (R (f (next i)) (f (here i)))) ∙ ap is_lt (total.antisymm (f (get_or xs (k + 1) 0)) (f (get_or xs k 0))) ∙ turned (R (f (get_or xs k 0)) (f (get_or xs (k + 1) 0))) (up k (omega (arith, high)))
+  where
+    turned : (o : Ordering) → is_lt o ≡ true → is_lt (ordering_reverse o) ≡ false
+    turned Less e = refl
+    turned Equal e = absurd cc
+    turned Greater e = absurd cc
+
+-- one more is below the next
+pub rises_more : (paths : List (List ℕ)) (places : List ℕ) (at : ℕ) → 1 ≤ at → Rises paths places at → is_lt (entry_cmp (entry_at paths (get_or places (at - 1) 0)) (entry_at paths (get_or places at 0))) ≡ true → Rises paths places (at + 1)
+rises_more paths places at some up last k lt = by (nat_lt (k + 1) at) refl
+  where
+    by : (b : Bool) → nat_lt (k + 1) at ≡ b → is_lt (entry_cmp (entry_at paths (get_or places k 0)) (entry_at paths (get_or places (k + 1) 0))) ≡ true
+    by true e = up k (ltb-true (k + 1) at e)
+    by false e =
+        let end : at ≤ k + 1 = ltb-false (k + 1) at e in
+        ap (λ (n : ℕ). is_lt (entry_cmp (entry_at paths (get_or places k 0)) (entry_at paths (get_or places n 0)))) {x = k + 1} {y = at} (omega (arith, end, lt))
+        ∙ ap (λ (n : ℕ). is_lt (entry_cmp (entry_at paths (get_or places n 0)) (entry_at paths (get_or places at 0)))) {x = k} {y = at - 1} (omega (arith, end, lt))
+        ∙ last

@@ -1,5 +1,5 @@
 -- What is written in a format, and how much of it is pending.
-use Rattle.std.proofs.Common.{◌≡◌, ℕ, List, length, get_or, take, All, Option, Some, None, refl, sym, ap, ◌∙◌, arith}
+use Rattle.std.proofs.Common.{◌≡◌, ℕ, List, length, get_or, All, Option, Some, None, refl, sym, ap, ◌∙◌, arith}
 use Rattle.std.specs.Option.{option_map}
 use Rattle.std.proofs.lemmas.List.{take_all}
 use Rattle.loc_outside.specs.Held.{Held, begun, grown}

@@ -1,5 +1,5 @@
 -- The text of entries, one after the other.
-use Rattle.std.proofs.Common.{◌≡◌, ℕ, zero, suc, ◌+◌, ◌-◌, ◌<◌, ◌≤◌, Bool, true, false, cond, All, List, [], ◌∷◌, ◌++◌, map, length, get_or, drop, Option, Some, None, refl, sym, ap, subst, ◌∙◌, append-nil, arith, Result, Ok, Err, OnOk, OnErr}
+use Rattle.std.proofs.Common.{◌≡◌, ℕ, zero, suc, ◌+◌, ◌-◌, ◌<◌, ◌≤◌, Bool, true, false, cond, All, List, [], ◌∷◌, ◌++◌, length, get_or, drop, Option, Some, None, sym, ap, subst, ◌∙◌, append-nil, arith, Result, Ok, Err, OnOk, OnErr}
 use Rattle.std.specs.Str.{bytes_eq}
 use Rattle.std.proofs.lemmas.Grind.{flat_map-append}
 use Rattle.path_order.specs.declared.kind.Kind.{Kind}
@@ -8,7 +8,7 @@ use Rattle.path_order.proofs.ParentLemmas.{HasParent, has_parent}
 use Rattle.byte_feed.specs.Field.{IsText, max_path}
 use Rattle.byte_feed.specs.Front.{spelling}
 use Rattle.byte_feed.specs.Paths.{IsPath}
-use Rattle.mlocate_db.specs.Items.{Item, HeadItem, EntryItem, EndItem, mlocate, spell}
+use Rattle.mlocate_db.specs.Items.{Item, EntryItem, EndItem, mlocate, spell}
 use Rattle.db_convert.specs.declared.format.Format.TheVariants.{Mlocate}
 use Rattle.db_convert.specs.Admission.{first_refused}
 use Rattle.db_convert.specs.Blocks.{Entry, entry_item, entries_of, kind_in}

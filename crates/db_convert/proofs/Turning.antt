@@ -1,5 +1,5 @@
 -- The items of entries, one after the other, are those of the blocks.
-use Rattle.std.proofs.Common.{◌≡◌, ℕ, ◌<◌, Bool, true, false, cond, true≢false, List, [], ◌∷◌, ◌++◌, map, filter, length, get_or, Option, Some, None, refl, sym, ap, subst, ◌∙◌, append_assoc, append-nil, is_lt, is_eq, Ordering, Less, Equal, Greater}
+use Rattle.std.proofs.Common.{◌≡◌, ℕ, Bool, true, false, cond, true≢false, List, [], ◌∷◌, ◌++◌, map, filter, get_or, Option, Some, None, refl, sym, ap, ◌∙◌, append_assoc, append-nil, is_lt, is_eq, Ordering}
 use Rattle.std.specs.Prelude.{◌||◌}
 use Rattle.std.specs.List.{flat_map, list_any}
 use Rattle.std.specs.Str.{bytes_eq}
@@ -10,7 +10,7 @@ use Rattle.std.proofs.lemmas.Slice.Eq.{bytes_eq-Decides}
 use Rattle.path_order.specs.Path.{parent_of, base_of}
 use Rattle.path_order.specs.Order.{path_cmp}
 use Rattle.path_order.proofs.OrderLemmas.{path_total, path_cmp_refl}
-use Rattle.mlocate_db.specs.Items.{Item, HeadItem, EndItem}
+use Rattle.mlocate_db.specs.Items.{Item, EndItem}
 use Rattle.db_convert.specs.Blocks.{Entry, sorted_unique, byte_cmp, parents, names_in, entry_item, block_items, entries_of}
 use Rattle.db_convert.specs.Turns.{head_item, opening, closing, items_from}
 use Rattle.db_convert.proofs.Sets.{Each, each_map, sorted_unique_each}

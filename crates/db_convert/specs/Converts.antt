@@ -1,5 +1,5 @@
 -- What a conversion does.
-use Rattle.std.specs.Prelude.{◌≡◌, ◌≢◌, ℕ, ◌+◌, ◌^◌, ◌≤◌, ◌<◌, ◌⊎◌, Bool, true, false, List, length, take, map, All, Option, Some, None, Result, Ok, Err, option_map, IfErr, IfOk, IsErrAnd, IsOk, IsOkUnless, IsTrue}
+use Rattle.std.specs.Prelude.{◌≡◌, ◌≢◌, ℕ, ◌+◌, ◌^◌, ◌≤◌, ◌<◌, ◌⊎◌, Bool, true, false, List, length, take, map, Option, Some, None, Result, Ok, Err, option_map, IfErr, IfOk, IsErrAnd, IsOk, IsOkUnless, IsTrue}
 use Rattle.std.specs.FinMap.{get}
 use Rattle.loc_outside.specs.Causes.{Rose, raised}
 use Rattle.loc_outside.specs.Files.{Files}
@@ -8,7 +8,7 @@ use Rattle.byte_feed.specs.declared.damage.DbFault.{DbFault}
 use Rattle.byte_feed.specs.declared.damage.DbFault.TheVariants as file_faults
 use Rattle.byte_feed.specs.Endings.{Ending}
 use Rattle.byte_feed.specs.Front as feed
-use Rattle.byte_feed.specs.Paths.{PathAt, ToCome, IsPath, GivesWhole, contents}
+use Rattle.byte_feed.specs.Paths.{PathAt, ToCome, GivesWhole, contents}
 use Rattle.db_convert.specs.declared.format.Format.{Format}
 use Rattle.db_convert.specs.declared.format.AdmitCause.{AdmitCause}
 use Rattle.db_convert.specs.declared.fault.ListFault.{ListFault}

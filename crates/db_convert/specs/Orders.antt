@@ -1,9 +1,9 @@
 -- The order in which a database of mlocate has its paths, and where a directory is among them.
-use Rattle.std.specs.Prelude.{◌≡◌, ℕ, ◌<◌, ◌-◌, Bool, true, false, List, [], length, map, All, slice_index_or}
+use Rattle.std.specs.Prelude.{◌≡◌, ℕ, ◌+◌, ◌<◌, ◌-◌, Bool, true, false, List, [], length, map, All, slice_index_or}
 use Rattle.std.specs.List.{list_any}
 use Rattle.std.specs.Ordering.{is_lt}
 use Rattle.path_order.specs.Order.{path_cmp}
-use Rattle.db_convert.specs.Blocks.{Entry, entry_of, entries_of}
+use Rattle.db_convert.specs.Blocks.{Entry, entry_of, entry_cmp, entries_of}
 
 -- the path at a place as an entry
 abbrev pub entry_at : List (List ℕ) → ℕ → Entry
@@ -12,6 +12,10 @@ entry_at paths place = entry_of (slice_index_or paths place [])
 -- the same places, in whatever order and however often
 abbrev pub HasSame : List ℕ → List ℕ → Type 0
 HasSame places others = (holds : ℕ → Bool) → list_any holds places ≡ list_any holds others
+
+-- Of the first so many places each has an entry below that of the next.
+abbrev pub Rises : List (List ℕ) → List ℕ → ℕ → Type 0
+Rises paths places count = (k : ℕ) → k + 1 < count → is_lt (entry_cmp (entry_at paths (slice_index_or places k 0)) (entry_at paths (slice_index_or places (k + 1) 0))) ≡ true
 
 -- These are the places of the paths by their entries in order, each entry once.
 pub record IsOrder (paths : List (List ℕ)) (places : List ℕ) : Type 0 where

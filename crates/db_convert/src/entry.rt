@@ -61,7 +61,7 @@ pub(crate) fn compare_directories(a: &[u8], b: &[u8]) -> Ordering
 
 /// Compares two texts by their bytes, in the same way.
 #[inline(always)]
-fn compare_names(a: &[u8], b: &[u8]) -> Ordering
+pub(crate) fn compare_names(a: &[u8], b: &[u8]) -> Ordering
     ensures { result ≡ byte_cmp a.now b.now }
 {
     let same = common_prefix(a, b);

@@ -1,5 +1,4 @@
-use Rattle.std.proofs.Common.{◌≡◌, List, ℕ, false, Some, sym, ap, ◌∙◌, arith}
-use Rattle.db_convert.specs.Admission.{is_admitted}
+use Rattle.std.proofs.Common.{Some, sym, ap, ◌∙◌, arith}
 use Rattle.db_convert.proofs.Refused.{refused_first, refused_none}
 use Rattle.db_convert.proofs.admission.first_refused.Goals as goal
 

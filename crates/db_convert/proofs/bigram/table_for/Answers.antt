@@ -1,5 +1,5 @@
-use Rattle.std.proofs.Common.{◌≡◌, ◌<◌, ◌≤◌, length, ℕ, ◌∙◌, arith}
-use Rattle.bigram_db.proofs.PathCounting.{counts_none, counts_more, counts_below, counts_all}
+use Rattle.std.proofs.Common.{◌∙◌, arith}
+use Rattle.bigram_db.proofs.PathCounting.{counts_more, counts_below, counts_all}
 use Rattle.db_convert.proofs.bigram.table_for.Goals as goal
 
 pub add-requires : goal.add-requires

@@ -1,8 +1,6 @@
-use Rattle.std.proofs.Common.{◌≡◌, ◌+◌, ◌<◌, ℕ, List, [], ◌++◌, length, drop, get_or, sym, ap, subst, ◌∙◌, arith}
-use Rattle.std.specs.Io.KnownBytes.{Appends}
-use Rattle.loc_outside.specs.Outside.{AppendsShort}
+use Rattle.std.proofs.Common.{◌≡◌, ◌+◌, ◌<◌, ℕ, List, [], ◌++◌, length, drop, get_or, sym, ap, ◌∙◌, arith}
 use Rattle.loc_outside.proofs.LessTaken.{err_from}
-use Rattle.path_list.specs.Items.{marked, IsListed}
+use Rattle.path_list.specs.Items.{marked}
 use Rattle.path_list.specs.Marks.{byte_of}
 use Rattle.path_list.specs.Spelled.{encode_list}
 use Rattle.db_convert.proofs.Pieces.{wrote_none, wrote_more, wrote_short, wrote_all, drop_next, drop_end}

@@ -1,9 +1,9 @@
-use Rattle.std.proofs.Common.{◌≡◌, ◌+◌, ◌<◌, ℕ, List, [], ◌∷◌, ◌++◌, length, drop, get_or, refl, sym, ap, subst, ◌∙◌, arith}
+use Rattle.std.proofs.Common.{◌≡◌, ◌+◌, ◌<◌, ℕ, List, [], ◌∷◌, ◌++◌, length, drop, get_or, refl, sym, ap, ◌∙◌, arith}
 use Rattle.loc_outside.proofs.LessTaken.{err_from, short_first}
 use Rattle.locate02_db.specs.Items.{magic}
-use Rattle.locate02_db.specs.Spelled.{encode_path, encode_after}
+use Rattle.locate02_db.specs.Spelled.{encode_after}
 use Rattle.locate02_db.specs.Writer.{WriterState, piece, after_put}
-use Rattle.db_convert.proofs.Pieces.{wrote_none, wrote_more, wrote_short, wrote_all, drop_next, drop_end}
+use Rattle.db_convert.proofs.Pieces.{wrote_more, wrote_short, wrote_all, drop_next, drop_end}
 use Rattle.db_convert.proofs.locate02.put_locate02.Goals as goal
 
 next_is : (w w' : WriterState) (paths : List (List ℕ)) (at : ℕ) (path : List ℕ) → at < length paths → path ≡ get_or paths at [] → w' ≡ after_put w path

@@ -1,4 +1,4 @@
-use Rattle.std.proofs.Common.{◌≤◌, None, length}
+use Rattle.std.proofs.Common.{◌≤◌, None}
 use Rattle.byte_feed.specs.Front.{spelling}
 use Rattle.mlocate_db.specs.Items.{mlocate}
 use Rattle.db_convert.specs.Blocks.{entries_of}

@@ -1,4 +1,4 @@
-use Rattle.std.proofs.Common.{rules, tests, ◌≡◌, ℕ, ◌-◌, ◌<◌, List, ◌++◌, get_or, subst, arith, Bool, false}
+use Rattle.std.proofs.Common.{rules, tests, ◌≡◌, ◌-◌, get_or, subst, arith, false}
 use Rattle.std.specs.Io.KnownBytes.{Appends}
 use Rattle.std.specs.Str.{bytes_eq}
 use Rattle.std.proofs.KnownBytes.{Appends-trans}

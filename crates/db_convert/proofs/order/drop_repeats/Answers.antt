@@ -1,4 +1,4 @@
-use Rattle.std.proofs.Common.{rules, sym, ◌∙◌, ap}
+use Rattle.std.proofs.Common.{rules, sym, ◌∙◌}
 use Rattle.std.proofs.lemmas.Fn.{dedup_same}
 use Rattle.std.specs.Ordering.{eq_by_cmp}
 use Rattle.db_convert.specs.Blocks.{entry_cmp}

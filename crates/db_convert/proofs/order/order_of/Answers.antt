@@ -1,14 +1,14 @@
-use Rattle.std.proofs.Common.{◌≡◌, ℕ, ◌<◌, Bool, List, [], length, map, refl, sym, ap, subst, ◌∙◌, IsPermutation}
+use Rattle.std.proofs.Common.{◌≡◌, ℕ, ◌<◌, Bool, List, [], ◌∷◌, length, map, refl, sym, ap, subst, ◌∙◌, IsPermutation}
 use Rattle.std.proofs.lemmas.List.Filters.{All-dedup}
-use Rattle.std.proofs.lemmas.List.Sorted.{list_any-IsPermutation}
+use Rattle.std.proofs.lemmas.List.Sorted.{IsPermutation-refl, list_any-IsPermutation}
 use Rattle.std.specs.List.{All, dedup, list_any, range_with_len}
 use Rattle.std.specs.List.Sorted.{IsSortedByKey}
 use Rattle.std.specs.Ordering.{eq_by_cmp}
 use Rattle.db_convert.specs.Blocks.{Entry, entry_of, entry_cmp}
-use Rattle.db_convert.specs.Orders.{HasSame, IsOrder, entry_at}
+use Rattle.db_convert.specs.Orders.{HasSame, IsOrder, Rises, entry_at}
 use Rattle.db_convert.proofs.Directories.{any_map, entry_total, entry_apart}
 use Rattle.db_convert.proofs.RunPlaces.{same_within}
-use Rattle.db_convert.proofs.Sorting.{map-dedup, sorted_keys, dedup_is, each_place}
+use Rattle.db_convert.proofs.Sorting.{map-dedup, none_dropped, rises_sorted, sorted_keys, dedup_is, each_place}
 use Rattle.db_convert.proofs.order.order_of.Goals as goal
 
 abbrev same : List (List ℕ) → ℕ → ℕ → Bool
@@ -25,5 +25,18 @@ ordered paths all sorted kept has moved up left =
           ∙ dedup_is entry_cmp entry_total entry_apart (map (entry_at paths) sorted) (map entry_of paths) (sorted_keys entry_cmp (entry_at paths) sorted up) values;
     }
 
+as_it_is : (paths : List (List ℕ)) (places : List ℕ) → HasSame places (range_with_len 0 (length paths)) → Rises paths places (length places) → IsOrder paths places
+as_it_is paths [] has up = ordered paths [] [] [] has (IsPermutation-refl []) (rises_sorted entry_cmp entry_total (entry_at paths) [] up) refl
+as_it_is paths (x ∷ xs) has up =
+    ordered paths (x ∷ xs) (x ∷ xs) (x ∷ xs) has (IsPermutation-refl (x ∷ xs)) (rises_sorted entry_cmp entry_total (entry_at paths) (x ∷ xs) up) (sym (none_dropped entry_cmp entry_total (entry_at paths) x xs up))
+
+has_moved : (all moved : List ℕ) (n : ℕ) → HasSame all (range_with_len 0 n) → IsPermutation all moved → HasSame moved (range_with_len 0 n)
+has_moved all moved n has is holds = sym (list_any-IsPermutation holds all moved is) ∙ has holds
+
+pub returns-then-is_in_order : goal.returns-then-is_in_order
+returns-then-is_in_order c =
+    as_it_is c.args.paths.now _ c.in_ok-places.ensures (subst (λ (l : List ℕ). Rises c.args.paths.now l (length l)) c.deref.ensures.value (c.is_in_order.ensures c.if-is_in_order.true))
+
 pub returns : goal.returns
-returns c = ordered c.args.paths.now _ _ _ c.in_ok-places.ensures c.in_ok-sort_places.ensures.same c.in_ok-sort_places.ensures.sorted c.drop_repeats.ensures
+returns c =
+    ordered c.args.paths.now _ _ _ (has_moved _ _ (length c.args.paths.now) c.in_ok-places.ensures c.sort_directories.ensures) c.in_ok-sort_places.ensures.same c.in_ok-sort_places.ensures.sorted c.drop_repeats.ensures

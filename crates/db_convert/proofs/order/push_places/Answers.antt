@@ -1,4 +1,4 @@
-use Rattle.std.proofs.Common.{ℕ, List, ◌++◌, ap, ◌∙◌, arith, ◌-◌, ◌∷◌, []}
+use Rattle.std.proofs.Common.{ℕ, List, ◌++◌, ap, ◌∙◌, arith, ◌∷◌, []}
 use Rattle.db_convert.proofs.RunPlaces.{place_more}
 use Rattle.db_convert.proofs.order.push_places.Goals as goal
 

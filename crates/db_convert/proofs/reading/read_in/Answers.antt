@@ -1,5 +1,4 @@
-use Rattle.std.proofs.Common.{ℕ, List, Option, Some, None, IfSome, refl, sym, subst}
-use Rattle.byte_feed.specs.Front.{Window}
+use Rattle.std.proofs.Common.{ℕ, List, Some, IfSome, refl, sym, subst}
 use Rattle.byte_feed.specs.Feed.{empty_at}
 use Rattle.mlocate_db.specs.Reader as mlocate
 use Rattle.locate02_db.specs.Reader as locate02

@@ -1,10 +1,10 @@
-use Rattle.std.proofs.Common.{◌++◌, ◌∷◌, [], List, ℕ, Bool, Ok, Err, refl, ap, subst, sym, ◌∙◌, arith}
+use Rattle.std.proofs.Common.{◌++◌, ◌∷◌, [], Bool, Ok, ap, subst, sym, ◌∙◌, arith}
 use Rattle.std.specs.List.{All}
 use Rattle.std.proofs.lemmas.List.Elements.{All-nil, All-push}
 use Rattle.byte_feed.specs.Paths.{IsPath}
 use Rattle.byte_feed.proofs.Draws.{draws_none, draws_then}
 use Rattle.byte_feed.proofs.Rests.{moved_none, moved_then, moved_same}
-use Rattle.db_convert.proofs.ReadPaths.{any_answer, fault_answers, whole_answers, one_more, texts_more}
+use Rattle.db_convert.proofs.ReadPaths.{fault_answers, whole_answers, one_more, texts_more}
 use Rattle.db_convert.proofs.reading.read_on.Goals as goal
 
 pub paths-init : goal.paths-init

@@ -1,6 +1,5 @@
-use Rattle.std.proofs.Common.{ℕ, List, Option, Some, None, IfSome, refl, sym, subst}
+use Rattle.std.proofs.Common.{ℕ, List, Option, IfSome, refl, sym, subst}
 use Rattle.byte_feed.specs.Front.{Window}
-use Rattle.byte_feed.specs.Feed.{empty_at}
 use Rattle.any_db.specs.Reader as any
 use Rattle.any_db.specs.declared.any_reader.AnyReader.{AnyReader}
 use Rattle.db_convert.specs.declared.format.Format.{Format}

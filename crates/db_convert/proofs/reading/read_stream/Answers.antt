@@ -1,7 +1,5 @@
-use Rattle.std.proofs.Common.{[], Err}
 use Rattle.byte_feed.proofs.Draws.{draws_then}
-use Rattle.byte_feed.proofs.Rests.{moved_none}
-use Rattle.db_convert.proofs.ReadPaths.{answers_before, fault_answers}
+use Rattle.db_convert.proofs.ReadPaths.{answers_before}
 use Rattle.db_convert.proofs.reading.read_stream.Goals as goal
 
 pub returns-in-Ok-clause-answer : goal.returns-in-Ok-clause-answer

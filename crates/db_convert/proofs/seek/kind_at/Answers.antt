@@ -1,6 +1,4 @@
-use Rattle.std.proofs.Common.{rules, tests, arith, false, ◌≡◌, get_or}
-use Rattle.std.specs.Str.{bytes_eq}
-use Rattle.db_convert.specs.Orders.{entry_at}
+use Rattle.std.proofs.Common.{rules, tests, arith}
 use Rattle.db_convert.proofs.Seeking.{directory_missing}
 use Rattle.db_convert.proofs.seek.kind_at.Goals as goal
 use Rattle.db_convert.proofs.seek.kind_at.Goals.{else-place-places-via-then-place-places+else-eq, else-place-places-via-else-place-places}

@@ -1,5 +1,4 @@
-use Rattle.std.proofs.Common.{◌≡◌, ℕ, ◌+◌, ◌≤◌, Bool, true, false, cond, List, [], ◌∷◌, ◌++◌, length, take, Result, Ok, Err, OnErr, refl, sym, subst, ap, ◌∙◌, arith, length-append}
-use Rattle.std.proofs.lemmas.List.{take_at}
+use Rattle.std.proofs.Common.{◌≡◌, ℕ, ◌+◌, Bool, true, false, cond, List, [], ◌∷◌, ◌++◌, length, Result, Ok, Err, sym, subst, ap, ◌∙◌, arith, length-append}
 use Rattle.std.specs.Result.{is_ok, is_err}
 use Rattle.db_convert.specs.Texts.{texts_from, IsCut}
 use Rattle.db_convert.proofs.CutTexts.{cut_push, texts_push}
