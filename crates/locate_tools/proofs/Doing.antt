@@ -8,6 +8,7 @@ use Rattle.loc_outside.specs.Outside.{AppendsPart}
 use Rattle.loc_outside.specs.Snapshot.{Snapshot}
 use Rattle.tool_words.specs.Asked.{Asked, Updatedb, Locate, Convert, Exercise}
 use Rattle.tool_words.specs.Convert.{ConvertAsked}
+use Rattle.tool_words.specs.Exercise.{ExerciseAsked}
 use Rattle.tool_words.specs.Locate.{LocateAsked}
 use Rattle.tool_words.specs.Updatedb.{UpdatedbAsked}
 use Rattle.database_update.specs.Updates.{Around}
@@ -17,14 +18,16 @@ use Rattle.locate_tools.specs.declared.answer.Cause.{Cause}
 use Rattle.locate_tools.specs.declared.answer.Cause.TheVariants as causes
 use Rattle.locate_tools.specs.declared.answer.Ending.{Ending}
 use Rattle.locate_tools.specs.Calls.{CallMade, request_of, tool_called}
-use Rattle.locate_tools.specs.Does.{Does, Leaves, LeavesConvert, LeavesLocate, RunsConvert, RunsLocate, RunsUpdatedb, Works, standing_in}
+use Rattle.locate_tools.specs.Does.{Does, Leaves, LeavesConvert, LeavesExercise, LeavesLocate, RunsConvert, RunsExercise, RunsLocate, RunsUpdatedb, Works, standing_in}
 use Rattle.locate_tools.specs.ConvertRun.{ConvertRun, around_in as input_and_output}
+use Rattle.locate_tools.specs.ExerciseRun.{ExerciseRun, Written, written_in}
 use Rattle.locate_tools.specs.LocateRun.{LocateDoes}
 use Rattle.locate_tools.specs.Standing.{Standing}
 use Rattle.locate_tools.specs.Statuses.{status_of}
 use Rattle.locate_tools.specs.Told.{told}
 use Rattle.locate_tools.specs.UpdatedbRun.{UpdatedbRun, around_in}
 use Rattle.locate_tools.proofs.Converting.{converts_none}
+use Rattle.locate_tools.proofs.Exercising.{exercises_none}
 use Rattle.locate_tools.proofs.Runs.{does_nothing}
 use Rattle.locate_tools.proofs.Updating.{run_none}
 
@@ -39,25 +42,28 @@ works_refused r now before ending after none is outcomes = subst (λ (x : Option
 
 -- there was no memory for the words, and nothing was done
 pub works_memory : (r : Option Asked) (now : Moment) (before : Snapshot) (ending : Ending) (after : Snapshot) → ending.cause ≡ causes.OutOfMemory → ending.outcomes ≡ []
-    → standing_in after ≡ standing_in before → around_in after ≡ around_in before → input_and_output after ≡ input_and_output before → Works r now before ending after
-works_memory None now before ending after is outcomes standing around files = record { cause = inr is; outcomes = outcomes }
-works_memory (Some (Updatedb asked)) now before ending after is outcomes standing around files = record {
+    → standing_in after ≡ standing_in before → around_in after ≡ around_in before → input_and_output after ≡ input_and_output before → written_in after ≡ written_in before → Works r now before ending after
+works_memory None now before ending after is outcomes standing around files written = record { cause = inr is; outcomes = outcomes }
+works_memory (Some (Updatedb asked)) now before ending after is outcomes standing around files written = record {
   run = subst (λ (a : Around). UpdatedbRun asked now (around_in before) a ending.cause) (sym around) (run_none asked now (around_in before) ending.cause is);
   accepted = not_usage ending.cause is;
   outcomes = outcomes;
 }
-works_memory (Some (Locate asked)) now before ending after is outcomes standing around files = record {
+works_memory (Some (Locate asked)) now before ending after is outcomes standing around files written = record {
   run = subst (λ (s : Standing). LocateDoes asked (standing_in before) s ending.outcomes ending.cause) (sym standing)
       (subst (λ (os : List Outcome). LocateDoes asked (standing_in before) (standing_in before) os ending.cause) (sym outcomes)
       (subst (λ (cause : Cause). LocateDoes asked (standing_in before) (standing_in before) [] cause) (sym is) (does_nothing asked (standing_in before))));
   accepted = not_usage ending.cause is;
 }
-works_memory (Some (Convert asked)) now before ending after is outcomes standing around files = record {
+works_memory (Some (Convert asked)) now before ending after is outcomes standing around files written = record {
   run = subst (λ (a : Converting). ConvertRun asked (input_and_output before) a ending.cause) (sym files) (converts_none asked (input_and_output before) ending.cause is);
   accepted = not_usage ending.cause is;
   outcomes = outcomes;
 }
-works_memory (Some (Exercise asked)) now before ending after is outcomes standing around files = record { cause = inr is; outcomes = outcomes }
+works_memory (Some (Exercise asked)) now before ending after is outcomes standing around files written = record {
+  run = subst (λ (o : Written). ExerciseRun asked (written_in before) o ending.cause) (sym written) (exercises_none asked (written_in before) ending.cause is);
+  outcomes = outcomes;
+}
 
 pub works_locate : (r : Option Asked) (asked : LocateAsked) (now : Moment) (before : Snapshot) (ending : Ending) (after : Snapshot) → r ≡ Some (Locate asked) → RunsLocate asked before ending after → Works r now before ending after
 works_locate r asked now before ending after is done = subst (λ (x : Option Asked). Works x now before ending after) (sym is) done
@@ -67,6 +73,9 @@ works_updatedb r asked now before ending after is done = subst (λ (x : Option A
 
 pub works_convert : (r : Option Asked) (asked : ConvertAsked) (now : Moment) (before : Snapshot) (ending : Ending) (after : Snapshot) → r ≡ Some (Convert asked) → RunsConvert asked before ending after → Works r now before ending after
 works_convert r asked now before ending after is done = subst (λ (x : Option Asked). Works x now before ending after) (sym is) done
+
+pub works_exercise : (r : Option Asked) (asked : ExerciseAsked) (now : Moment) (before : Snapshot) (ending : Ending) (after : Snapshot) → r ≡ Some (Exercise asked) → RunsExercise asked before ending after → Works r now before ending after
+works_exercise r asked now before ending after is done = subst (λ (x : Option Asked). Works x now before ending after) (sym is) done
 
 -- ---- the whole of it
 
@@ -96,7 +105,7 @@ leaves_all None cause reader tree gate output out r t g o p = (r, t, g, o, p)
 leaves_all (Some (Updatedb asked)) cause reader tree gate output out r t g o p = g
 leaves_all (Some (Locate asked)) cause reader tree gate output out r t g o p = record { tree_same = t; output_same = o; unopened = λ _. (r, g, p); refused = λ _. (r, g, p); unasked = λ _. (r, g) }
 leaves_all (Some (Convert asked)) cause reader tree gate output out r t g o p = record { tree_same = t; gate_same = g; out_same = p; unwritten = λ _ _. o }
-leaves_all (Some (Exercise asked)) cause reader tree gate output out r t g o p = (r, t, g, o, p)
+leaves_all (Some (Exercise asked)) cause reader tree gate output out r t g o p = record { reader_same = r; tree_same = t; gate_same = g; output_same = o; unwritten = λ _. p }
 
 pub leaves_locate : (r : Option Asked) (asked : LocateAsked) (cause : Cause) (reader tree gate output out : Type 0) → r ≡ Some (Locate asked) → LeavesLocate asked cause reader tree gate output out → Leaves r cause reader tree gate output out
 leaves_locate r asked cause reader tree gate output out is left = subst (λ (x : Option Asked). Leaves x cause reader tree gate output out) (sym is) left
@@ -106,3 +115,6 @@ leaves_updatedb r asked cause reader tree gate output out is left = subst (λ (x
 
 pub leaves_convert : (r : Option Asked) (asked : ConvertAsked) (cause : Cause) (reader tree gate output out : Type 0) → r ≡ Some (Convert asked) → LeavesConvert cause tree gate output out → Leaves r cause reader tree gate output out
 leaves_convert r asked cause reader tree gate output out is left = subst (λ (x : Option Asked). Leaves x cause reader tree gate output out) (sym is) left
+
+pub leaves_exercise : (r : Option Asked) (asked : ExerciseAsked) (cause : Cause) (reader tree gate output out : Type 0) → r ≡ Some (Exercise asked) → LeavesExercise cause reader tree gate output out → Leaves r cause reader tree gate output out
+leaves_exercise r asked cause reader tree gate output out is left = subst (λ (x : Option Asked). Leaves x cause reader tree gate output out) (sym is) left

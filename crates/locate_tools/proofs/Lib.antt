@@ -10,4 +10,5 @@ pub mod ToldOf
 pub mod Queries
 pub mod Expressions
 pub mod Searching
+pub mod Exercising
 pub mod Doing

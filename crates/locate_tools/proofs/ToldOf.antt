@@ -15,7 +15,7 @@ use Rattle.tool_words.specs.declared.tool.Tool.{Tool}
 use Rattle.tool_words.specs.declared.tool.Tool.TheVariants as tools
 use Rattle.locate_tools.specs.declared.answer.Cause.{Cause}
 use Rattle.locate_tools.specs.declared.answer.Cause.TheVariants as causes
-use Rattle.locate_tools.specs.Calls.{CallMade, built, request_of, subject_of, tool_called, update_subject}
+use Rattle.locate_tools.specs.Calls.{CallMade, request_of, subject_of, tool_called, update_subject}
 use Rattle.locate_tools.specs.LocateExact.{databases_of}
 use Rattle.locate_tools.specs.Messages.{cause_message}
 use Rattle.locate_tools.specs.Told.{messages, messages_of, told}
@@ -29,28 +29,28 @@ tool_for (Locate l) = tools.Locate
 tool_for (Convert v) = tools.Convert
 tool_for (Exercise e) = tools.Exercise
 
-updatedb_only : (o : Option UpdatedbAsked) (a : Asked) → (option_map Updatedb o >>= built) ≡ Some a → tools.Updatedb ≡ tool_for a
+updatedb_only : (o : Option UpdatedbAsked) (a : Asked) → option_map Updatedb o ≡ Some a → tools.Updatedb ≡ tool_for a
 updatedb_only None a is = absurd cc
 updatedb_only (Some u) a is = let same : Updatedb u ≡ a = cc in ap tool_for same
 
-locate_only : (o : Option LocateAsked) (a : Asked) → (option_map Locate o >>= built) ≡ Some a → tools.Locate ≡ tool_for a
+locate_only : (o : Option LocateAsked) (a : Asked) → option_map Locate o ≡ Some a → tools.Locate ≡ tool_for a
 locate_only None a is = absurd cc
 locate_only (Some l) a is = let same : Locate l ≡ a = cc in ap tool_for same
 
-convert_only : (o : Option ConvertAsked) (a : Asked) → (option_map Convert o >>= built) ≡ Some a → tools.Convert ≡ tool_for a
+convert_only : (o : Option ConvertAsked) (a : Asked) → option_map Convert o ≡ Some a → tools.Convert ≡ tool_for a
 convert_only None a is = absurd cc
 convert_only (Some v) a is = let same : Convert v ≡ a = cc in ap tool_for same
 
-exercise_never : (o : Option ExerciseAsked) (a : Asked) → (option_map Exercise o >>= built) ≡ Some a → ⊥
-exercise_never None a is = absurd cc
-exercise_never (Some e) a is = absurd cc
+exercise_only : (o : Option ExerciseAsked) (a : Asked) → option_map Exercise o ≡ Some a → tools.Exercise ≡ tool_for a
+exercise_only None a is = absurd cc
+exercise_only (Some e) a is = let same : Exercise e ≡ a = cc in ap tool_for same
 
-by_tool : (t : Option Tool) (words : List (List ℕ)) (path : Option (List ℕ)) (a : Asked) → ((t >>= (λ tool. asked_of tool words path)) >>= built) ≡ Some a → t ≡ Some (tool_for a)
+by_tool : (t : Option Tool) (words : List (List ℕ)) (path : Option (List ℕ)) (a : Asked) → (t >>= (λ tool. asked_of tool words path)) ≡ Some a → t ≡ Some (tool_for a)
 by_tool None words path a is = absurd cc
 by_tool (Some tools.Updatedb) words path a is = ap (λ (t : Tool). Some t) (updatedb_only (updatedb_asked words) a is)
 by_tool (Some tools.Locate) words path a is = ap (λ (t : Tool). Some t) (locate_only (locate_asked words path) a is)
 by_tool (Some tools.Convert) words path a is = ap (λ (t : Tool). Some t) (convert_only (convert_asked words) a is)
-by_tool (Some tools.Exercise) words path a is = absurd (exercise_never (exercise_asked words) a is)
+by_tool (Some tools.Exercise) words path a is = ap (λ (t : Tool). Some t) (exercise_only (exercise_asked words) a is)
 
 tool_asked : (call : CallMade) (a : Asked) → request_of call ≡ Some a → tool_called call ≡ Some (tool_for a)
 unfolding request_of asked
@@ -64,6 +64,9 @@ tool_of_updatedb call a is = tool_asked call (Updatedb a) is
 
 pub tool_of_convert : (call : CallMade) (a : ConvertAsked) → request_of call ≡ Some (Convert a) → tool_called call ≡ Some tools.Convert
 tool_of_convert call a is = tool_asked call (Convert a) is
+
+pub tool_of_exercise : (call : CallMade) (a : ExerciseAsked) → request_of call ≡ Some (Exercise a) → tool_called call ≡ Some tools.Exercise
+tool_of_exercise call a is = tool_asked call (Exercise a) is
 
 -- ---- what is told
 
@@ -103,4 +106,9 @@ told_updatedb call a cause is =
 pub told_convert : (call : CallMade) (a : ConvertAsked) (cause : Cause) → request_of call ≡ Some (Convert a) → cause_message (speaker (Some tools.Convert)) a.input cause ≡ told call [] cause
 told_convert call a cause is =
     ap (λ (t : Option Tool). cause_message (speaker t) a.input cause) (sym (tool_of_convert call a is))
+    ∙ sym (ap (λ (r : Option Asked). messages_of r [] ++ cause_message (speaker (tool_called call)) (subject_of r cause) cause) is)
+
+pub told_exercise : (call : CallMade) (a : ExerciseAsked) (cause : Cause) → request_of call ≡ Some (Exercise a) → cause_message (speaker (Some tools.Exercise)) [] cause ≡ told call [] cause
+told_exercise call a cause is =
+    ap (λ (t : Option Tool). cause_message (speaker t) [] cause) (sym (tool_of_exercise call a is))
     ∙ sym (ap (λ (r : Option Asked). messages_of r [] ++ cause_message (speaker (tool_called call)) (subject_of r cause) cause) is)

@@ -2,7 +2,6 @@
 use Rattle.std.specs.Prelude.{ℕ, List, [], Option, Some, None}
 use Rattle.path_order.specs.Stamp.{Moment}
 use Rattle.tool_words.specs.Asked.{Asked, Updatedb, Locate, Convert, Exercise, asked}
-use Rattle.tool_words.specs.Values.{◌>>=◌}
 use Rattle.tool_words.specs.Tools.{speaker, tool_of}
 use Rattle.database_update.specs.SettingsFiles.{name_of}
 use Rattle.database_update.specs.declared.settings_file.SettingsFile.TheVariants.{Configuration, Mounts}
@@ -26,16 +25,9 @@ tool_called call = tool_of call.words
 abbrev pub speaker_of : CallMade → List ℕ
 speaker_of call = speaker (tool_called call)
 
--- the work of a tool that is built: `exercise` is not built yet
-abbrev pub built : Asked → Option Asked
-built (Updatedb settings) = Some (Updatedb settings)
-built (Locate settings) = Some (Locate settings)
-built (Convert settings) = Some (Convert settings)
-built (Exercise settings) = None
-
 -- what a run is to do; None is bad usage
 unfoldable pub request_of : CallMade → Option Asked
-request_of call = asked call.words call.locate_path >>= built
+request_of call = asked call.words call.locate_path
 
 -- the name that the message of a cause of `updatedb` speaks of: a settings file, or the root
 abbrev pub update_subject : List ℕ → Cause → List ℕ

@@ -7,6 +7,7 @@ use Rattle.loc_outside.specs.Outside.{AppendsPart}
 use Rattle.loc_outside.specs.Snapshot.{Snapshot}
 use Rattle.tool_words.specs.Asked.{Asked, Updatedb, Locate, Convert, Exercise}
 use Rattle.tool_words.specs.Convert.{ConvertAsked}
+use Rattle.tool_words.specs.Exercise.{ExerciseAsked}
 use Rattle.tool_words.specs.Locate.{LocateAsked}
 use Rattle.tool_words.specs.Updatedb.{UpdatedbAsked}
 use Rattle.locate_tools.specs.declared.answer.Cause.{Cause}
@@ -14,6 +15,7 @@ use Rattle.locate_tools.specs.declared.answer.Cause.TheVariants as causes
 use Rattle.locate_tools.specs.declared.answer.Ending.{Ending}
 use Rattle.locate_tools.specs.Calls.{CallMade, request_of, tool_called}
 use Rattle.locate_tools.specs.ConvertRun.{ConvertRun, around_in as input_and_output}
+use Rattle.locate_tools.specs.ExerciseRun.{ExerciseRun, written_in}
 use Rattle.locate_tools.specs.LocateExact.{databases_of}
 use Rattle.locate_tools.specs.LocateRun.{LocateDoes}
 use Rattle.locate_tools.specs.RegexesAsked.{refusal_of}
@@ -39,7 +41,7 @@ standing_in o = record {
 
 -- ---- by what the words ask for
 
--- The command line is invalid, or its tool is not built: the run ends with `Usage`, or with `OutOfMemory`.
+-- The command line is invalid: the run ends with `Usage`, or with `OutOfMemory`.
 pub record Refuses (ending : Ending) : Type 0 where
   pub cause : (ending.cause ≡ causes.Usage) ⊎ (ending.cause ≡ causes.OutOfMemory)
   pub outcomes : ending.outcomes ≡ []
@@ -61,13 +63,17 @@ pub record RunsConvert (asked : ConvertAsked) (before : Snapshot) (ending : Endi
   pub accepted : ending.cause ≡ causes.Usage → ⊥
   pub outcomes : ending.outcomes ≡ []
 
+-- They ask for an exercise.
+pub record RunsExercise (asked : ExerciseAsked) (before : Snapshot) (ending : Ending) (after : Snapshot) : Type 0 where
+  pub run : ExerciseRun asked (written_in before) (written_in after) ending.cause
+  pub outcomes : ending.outcomes ≡ []
+
 abbrev pub Works : Option Asked → Moment → Snapshot → Ending → Snapshot → Type 0
 Works None now before ending after = Refuses ending
 Works (Some (Locate asked)) now before ending after = RunsLocate asked before ending after
 Works (Some (Updatedb asked)) now before ending after = RunsUpdatedb asked now before ending after
 Works (Some (Convert asked)) now before ending after = RunsConvert asked before ending after
--- No words ask for this yet (`built`).
-Works (Some (Exercise asked)) now before ending after = Refuses ending
+Works (Some (Exercise asked)) now before ending after = RunsExercise asked before ending after
 
 -- What a run does: the work that its words ask for. Its status is that of the tool and the cause; standard error takes the
 -- messages, or, where it failed, a first part of them; what was written to standard output has gone out, unless it failed or
@@ -99,10 +105,18 @@ pub record LeavesConvert (cause : Cause) (tree gate output out : Type 0) : Type 
   pub out_same : out
   pub unwritten : cause ≢ causes.Done → cause ≢ causes.WriteFault → output
 
+-- Of the reader, the tree, the gate, the output and standard output, `exercise` touches the last alone, and none where memory ran out.
+pub record LeavesExercise (cause : Cause) (reader tree gate output out : Type 0) : Type 0 where
+  pub reader_same : reader
+  pub tree_same : tree
+  pub gate_same : gate
+  pub output_same : output
+  pub unwritten : cause ≡ causes.OutOfMemory → out
+
 -- Which of the reader, the tree, the gate, the output and standard output are just as they were.
 abbrev pub Leaves : Option Asked → Cause → (reader tree gate output out : Type 0) → Type 0
 Leaves None cause reader tree gate output out = reader × tree × gate × output × out
 Leaves (Some (Locate asked)) cause reader tree gate output out = LeavesLocate asked cause reader tree gate output out
 Leaves (Some (Updatedb asked)) cause reader tree gate output out = gate
 Leaves (Some (Convert asked)) cause reader tree gate output out = LeavesConvert cause tree gate output out
-Leaves (Some (Exercise asked)) cause reader tree gate output out = reader × tree × gate × output × out
+Leaves (Some (Exercise asked)) cause reader tree gate output out = LeavesExercise cause reader tree gate output out

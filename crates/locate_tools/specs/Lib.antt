@@ -14,4 +14,4 @@ pub mod Counted
 pub mod LocateRun
 pub mod UpdatedbRun
 pub mod ConvertRun
-pub mod Tasks
+pub mod ExerciseRun

@@ -1,13 +1,12 @@
 //! A call: its words, its moment and the environment's list of databases.
 ghost use Rattle.std.specs.Prelude.{◌≡◌, IfOk, IsErrOf, Some, None, map, option_map, string_bytes};
 ghost use Rattle.locate_tools.specs.Calls.{request_of, tool_called};
-ghost use Rattle.locate_tools.specs.Tasks.{asked_by};
+ghost use Rattle.tool_words.specs.AskedSeen.{seen};
 
-use crate::task::{Task, task_of};
 use path_order::Stamp;
 use std::alloc::Global;
 use std::marker::Model;
-use tool_words::{Tool, WordsFault, read_words, tool_of};
+use tool_words::{Request, Tool, WordsFault, read_words, tool_of};
 
 /// A call of one of the tools. A contract sees the bytes of its texts.
 #[derive(Drop)]
@@ -52,6 +51,7 @@ impl Call {
     {
         tool_of(&self.words)
     }
+
     /// The value of `LOCATE_PATH`, where it is set.
     fn path(&self) -> Option<&str>
         ensures { option_map (λ t. t.now) result ≡ self.now.locate_path }
@@ -62,19 +62,12 @@ impl Call {
         }
     }
 
-    /// What the run is to do. Words that ask for what is not built yet are bad usage.
+    /// What the run is to do.
     #[tactic(auto, unfolding(crate::specs::Calls::request_of))]
-    pub fn task(&self, alloc: Global) -> Result<Task<'_>, WordsFault>
-        ensures accepted { IfOk result (λ task. request_of self.now ≡ Some (asked_by task)) }
+    pub fn request(&self, alloc: Global) -> Result<Request<'_>, WordsFault>
+        ensures accepted { IfOk result (λ request. request_of self.now ≡ Some (seen request)) }
         ensures refused { IsErrOf result WordsFault.Usage → request_of self.now ≡ None }
     {
-        let request = match read_words(alloc, &self.words, self.path()) {
-            Ok(request) => request,
-            Err(fault) => return Err(fault),
-        };
-        match task_of(request) {
-            Some(task) => Ok(task),
-            None => Err(WordsFault::Usage),
-        }
+        read_words(alloc, &self.words, self.path())
     }
 }

@@ -1,4 +1,4 @@
-//! File-name database tools: `updatedb`, `locate` and `convert`.
+//! File-name database tools: `updatedb`, `locate`, `convert` and `exercise`.
 #![tactic(auto)]
 
 mod answer;
@@ -9,6 +9,9 @@ mod convert_tests;
 #[cfg(test)]
 mod damage_tests;
 mod databases;
+mod exercise_run;
+#[cfg(test)]
+mod exercise_tests;
 #[cfg(test)]
 mod format_tests;
 mod lines;
@@ -21,7 +24,6 @@ mod regex_tests;
 mod regexes;
 mod run;
 mod statistics_text;
-mod task;
 mod telling;
 #[cfg(test)]
 mod tests;

@@ -1,9 +1,9 @@
 //! Whole runs of `locate` for regular expressions.
 use crate::locate_matcher::wanted_is_found;
-use crate::task::Task;
 use crate::tests::{call_of, plain_rows_hold, rows_hold};
 use loc_outside::{MemFiles, MemGate};
 use std::alloc::AllocError;
+use tool_words::Request;
 
 /// A LOCATE02 database of `/lib/libc.so.6`, `/lib/libc.so.x` and `/lib/libm.so`.
 const LIBRARIES: &[u8] = b"\0LOCATE02\0\0/lib/libc.so.6\0\x0Dx\0\xFBm.so\0";
@@ -73,9 +73,9 @@ locate -S -d /none -r (>0 N||locate: /none: not a database,";
 #[test]
 fn what_expressions_want(rt: HostRuntime) -> Result<(), AllocError> {
     let call = call_of(rt.alloc(), "locate --regex a", None)?;
-    let task = call.task(rt.alloc());
+    let request = call.request(rt.alloc());
     let mut seeks = false;
-    if let Ok(Task::Locate(asked)) = &task {
+    if let Ok(Request::Locate(asked)) = &request {
         wanted_is_found(asked, b"/a");
         seeks = asked.seeks_expressions();
     }

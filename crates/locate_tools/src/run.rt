@@ -4,12 +4,14 @@ ghost use Rattle.std.specs.Io.KnownBytes.{Appends};
 ghost use Rattle.loc_outside.specs.Causes.{Rose};
 ghost use Rattle.loc_outside.specs.Outside.{AppendsPart};
 ghost use Rattle.tool_words.specs.ConvertSeen.{seen as convert_seen};
+ghost use Rattle.tool_words.specs.ExerciseSeen.{seen as exercise_seen};
 ghost use Rattle.tool_words.specs.LocateSeen.{seen as locate_seen};
 ghost use Rattle.tool_words.specs.UpdatedbSeen.{seen as updatedb_seen};
 ghost use Rattle.tool_words.specs.Tools.{speaker as speaker_of_tool};
 ghost use Rattle.locate_tools.specs.Calls.{request_of, update_subject as subject_of_update};
 ghost use Rattle.locate_tools.specs.ConvertRun.{ConvertRun};
 ghost use Rattle.locate_tools.specs.Does.{Does, Leaves};
+ghost use Rattle.locate_tools.specs.ExerciseRun.{ExerciseRun};
 ghost use Rattle.locate_tools.specs.LocateExact.{databases_of};
 ghost use Rattle.locate_tools.specs.Messages.{cause_message};
 ghost use Rattle.locate_tools.specs.LocateRun.{LocateDoes};
@@ -21,9 +23,9 @@ ghost use Rattle.locate_tools.specs.UpdatedbRun.{UpdatedbRun};
 use crate::answer::{Cause, Ending, Outcomes};
 use crate::call::Call;
 use crate::convert_run::convert;
+use crate::exercise_run::exercise;
 use crate::locate_run::locate;
 use crate::messages::update_subject;
-use crate::task::Task;
 use crate::telling::tell_end;
 use crate::updatedb_run::updatedb;
 use loc_outside::{BufferedSink, Gate, Output, Reader, Sink, Tree};
@@ -31,7 +33,10 @@ use path_order::Stamp;
 use std::alloc::Global;
 use std::marker::Brand;
 use std::sync::ledger::Blank;
-use tool_words::{ConvertSettings, LocateSettings, Tool, UpdatedbSettings, WordsFault, speaker};
+use tool_words::{
+    ConvertSettings, ExerciseSettings, LocateSettings, Request, Tool, UpdatedbSettings, WordsFault,
+    speaker,
+};
 
 /// The ending of a run without databases, of which nothing was told yet. Its cause is told.
 fn ended<E: Sink>(
@@ -189,13 +194,38 @@ fn run_convert<R: Reader, O: Output, E: Sink>(
     )
 }
 
-/// Does what the words ask for. `updatedb` stores a complete scan of a tree under the name of its output; on any cause
-/// other than `Done` the stored files are unchanged. `locate` prints the paths of its databases that match, or writes their
-/// statistics, and, unless it is told to be quiet, reports on `err` each database that is missing, no database, damaged, too
-/// large or failed; all its memory is taken before the first is opened. What was written to `out` is passed on after each
-/// database, and before a message about it. `convert` stores the paths of its input in another format under the name of its
-/// output, which may be the same; on any cause other than `Done` the stored files are unchanged. A cause other than `Done` and `NoMatch` is reported on `err`. A failed write to
-/// `err` does not affect the result; nothing more is written there.
+/// The run of `exercise`.
+fn run_exercise<P: BufferedSink, E: Sink>(
+    alloc: Global,
+    asked: &ExerciseSettings,
+    out: &mut P,
+    err: &mut E,
+) -> Ending
+    ensures status { result.status ≡ status_of (Some Tool.Exercise) result.cause }
+    ensures outcomes { result.outcomes ≡ [] }
+    ensures run { ExerciseRun (exercise_seen asked.now)
+        (record { taken = P.taken out.old; held_back = P.held_back out.old; failed = P.faults out.old })
+        (record { taken = P.taken out.new; held_back = P.held_back out.new; failed = P.faults out.new })
+        result.cause }
+    ensures unwritten { result.cause ≡ Cause.OutOfMemory → out.new ≡ out.old }
+    ensures told { (Rose (E.faults err.old) (E.faults err.new) → ⊥) → Appends (E.taken err.old) (E.taken err.new) (cause_message (speaker_of_tool (Some Tool.Exercise)) [] result.cause) }
+    ensures told_part { AppendsPart (E.taken err.old) (E.taken err.new) (cause_message (speaker_of_tool (Some Tool.Exercise)) [] result.cause) }
+    ensures out_kept { P.kept out.old out.new }
+    ensures err_kept { E.kept err.old err.new }
+    ensures err_later { E.faults err.old ≤ E.faults err.new }
+{
+    let cause = exercise(alloc, asked, out);
+    ended(alloc, err, Some(Tool::Exercise), b"", cause)
+}
+
+/// Does what the words ask for. `updatedb` stores a complete scan of a tree under the name of its output. `locate` prints the
+/// matching paths of its databases, or writes their statistics, and, unless it is told to be quiet, reports on `err` each
+/// database that is missing, not a database, damaged or too large, or that could not be read or checked; all its memory is
+/// taken before the first is opened. `convert` stores the paths of its input, in the format asked for, under the name of its
+/// output, which may be the input. `exercise` updates a sample of trees in memory, and prints four totals. On any cause other
+/// than `Done`, `updatedb` and `convert` leave the stored files as they were. What was written to `out` is passed on after
+/// each database. A cause other than `Done` and `NoMatch` is reported on `err`; if a write there fails, a first part of the
+/// messages was taken, and no more are written.
 pub fn run<R: Reader, T: Tree, G: Gate, O: Output, P: BufferedSink, E: Sink>(
     alloc: Global,
     call: &Call,
@@ -256,16 +286,16 @@ pub fn run<R: Reader, T: Tree, G: Gate, O: Output, P: BufferedSink, E: Sink>(
     ensures out_kept { P.kept out.old out.new }
     ensures err_kept { E.kept err.old err.new }
 {
-    let task = match call.task(alloc) {
-        Ok(task) => task,
+    let request = match call.request(alloc) {
+        Ok(request) => request,
         Err(WordsFault::Usage) => return ended(alloc, err, call.tool(), b"", Cause::Usage),
         Err(WordsFault::OutOfMemory) => {
             return ended(alloc, err, call.tool(), b"", Cause::OutOfMemory);
         }
     };
-    match task {
-        Task::Locate(asked) => run_locate(alloc, &asked, reader, gate, out, err),
-        Task::Updatedb(asked) => run_updatedb(
+    match request {
+        Request::Locate(asked) => run_locate(alloc, &asked, reader, gate, out, err),
+        Request::Updatedb(asked) => run_updatedb(
             alloc,
             &asked,
             call.moment(),
@@ -275,6 +305,7 @@ pub fn run<R: Reader, T: Tree, G: Gate, O: Output, P: BufferedSink, E: Sink>(
             out,
             err,
         ),
-        Task::Convert(asked) => run_convert(alloc, &asked, reader, output, err),
+        Request::Convert(asked) => run_convert(alloc, &asked, reader, output, err),
+        Request::Exercise(asked) => run_exercise(alloc, &asked, out, err),
     }
 }

@@ -220,7 +220,7 @@ locate -d /x:/cut:/db /a/>0 MDW|/a/z,/a/z,|locate: /x: no such database,locate: 
 find a>1 ||locate_tools: bad usage,
 >1 ||locate_tools: bad usage,
 convert --to list /none /out>1 ||convert: /none: not a database,
-exercise 1 0>1 ||exercise: bad usage,";
+exercise 1>1 ||exercise: bad usage,";
     assert!(rt; plain_rows_hold(rt.alloc(), rows)?);
     Ok(())
 }

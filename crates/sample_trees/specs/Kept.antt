@@ -12,6 +12,6 @@ AllShown dirs = (path : List ℕ) (dir : Dir) → get dirs path ≡ Some dir →
 abbrev pub changed_last : Dir → Moment
 changed_last dir = later_of dir.times.modified dir.times.changed
 
--- a directory that has the same time in both is the same in both
+-- a directory that has the same later time in both is the same in both
 abbrev pub SameWhereTimesAgree : Dirs → Dirs → Type 0
 SameWhereTimesAgree before after = (path : List ℕ) (old new : Dir) → get before path ≡ Some old → get after path ≡ Some new → changed_last old ≡ changed_last new → old ≡ new

@@ -13,12 +13,12 @@ numbered letter number = letter ∷ decimal number
 unfoldable pub added_name : ℕ → ℕ → List ℕ
 added_name round edit = numbered 110 round ++ numbered 95 edit
 
--- names of so many numbers from one on
+-- a name and its kind for each of so many numbers, from a given one on
 abbrev pub numbered_from : ℕ → Kind → ℕ → ℕ → Listed
 numbered_from letter kind from count = map (λ number. (numbered letter number, kind)) (range_with_len from count)
 
 -- The names that lead from the root to a directory: `d` and its number, after the names of number `i` where its number is 8
--- times `i` plus 1 to 8. The first argument bounds the recursion.
+-- times `i` plus 1 to 8; none for number 0. The first argument bounds the recursion.
 abbrev pub names_within : ℕ → ℕ → List (List ℕ)
 names_within zero number = []
 names_within (suc bound) zero = []

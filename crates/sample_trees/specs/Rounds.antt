@@ -13,7 +13,7 @@ use Rattle.sample_trees.specs.FirstTree.{times_at, first_dirs}
 use Rattle.sample_trees.specs.Naming.{added_name, directory_path}
 use Rattle.sample_trees.specs.Numbers.{drawn}
 
--- an edit of a directory: 0 to add a file, 1 to take one away, 2 for neither; the name of the file; and the new time, in seconds
+-- an edit of a directory: 0 to add a file, 1 to take one away, 2 for neither; the name that 0 adds; and the new time, in seconds
 pub record Edit : Type 0 where
   pub path : List ℕ
   pub change : ℕ
@@ -52,16 +52,16 @@ edited edit dir = with_times (times_at edit.seconds) (with_change edit.change ed
 abbrev pub after_edits : List Edit → Dirs → Dirs
 after_edits edits dirs = fold (λ now edit. changed_at now edit.path (edited edit)) dirs edits
 
--- the seconds of a round
+-- the moment of a round, in seconds
 unfoldable pub seconds_of : ℕ → ℕ
 seconds_of round = 2000000 + 100 * round
 
--- the edit of a round that the three draws after these give
+-- the edit of a round that the three draws after so many others give
 unfoldable pub edit_drawn : ℕ → ℕ → ℕ → ℕ → Edit
 edit_drawn seed before round place =
     record { path = directory_path (drawn seed before 2001); change = drawn seed (before + 1) 3; added = added_name round place; seconds = seconds_of round - drawn seed (before + 2) 8 }
 
--- the first edits of a round that begins after so many draws
+-- the first so many edits of a round that begins after so many draws
 abbrev pub edits_drawn : ℕ → ℕ → ℕ → ℕ → List Edit
 edits_drawn seed before round count = map (λ place. edit_drawn seed (before + 3 * place) round place) (range_with_len 0 count)
 

@@ -3,7 +3,7 @@ use Rattle.std.specs.Prelude.{◌≡◌, ◌≤◌, ℕ, List, [], ◌∷◌, le
 use Rattle.std.specs.FinMap.{get, entries}
 use Rattle.loc_outside.specs.Trees.{Dir, Dirs}
 
--- the root is there, and at most 2,001 directories are, each of at most so many names
+-- the root is there, there are at most 2,001 directories, and each has at most so many names
 pub record IsSmall (names : ℕ) (dirs : Dirs) : Type 0 where
   pub root_there : IsSome (get dirs (47 ∷ []))
   pub few : length (entries dirs) ≤ 2001

@@ -5,7 +5,7 @@ use Rattle.loc_outside.specs.Memory.{fresh_tree}
 use Rattle.sample_trees.specs.declared.step.SampleStep.{SampleStep}
 use Rattle.sample_trees.specs.Rounds.{dirs_after, seconds_of}
 
--- the tree after so many rounds, and the moment of the last
+-- the tree after so many rounds, not opened yet, and the moment of that round; round 0 is the first step
 abbrev pub step_after : ℕ → ℕ → SampleStep
 step_after seed rounds = record { tree = fresh_tree (dirs_after seed rounds); now = record { seconds = seconds_of rounds; nanos = 0 } }
 

@@ -41,6 +41,7 @@ exercise_comes plan steps number rounds list text is are few short same given =
     λ i. record { rounds = rounds; directories = came.directories i; opened = opened i; bytes = length (bytes i) }
 
 pub exercise_stops : (plan : Plan) (steps : List SampleStep) (number rounds : ℕ) (fault : ListFault) → plan ≡ sample_plan → steps ≡ sample_steps number rounds → rounds < 256 → length plan.block < 2 ^ 32
-    → (Kept plan [] steps → StopsAt fault plan [] steps) → fault ≡ OutOfMemory
+    → StopsAt fault plan [] steps → fault ≡ OutOfMemory
 exercise_stops plan steps number rounds fault is are few short given =
-    only_memory sample_plan number rounds fault refl few (sampled (λ p s. StopsAt fault p [] s) plan steps number rounds is are few short given)
+    let block : length sample_plan.block < 2 ^ 32 = subst (λ (p : Plan). length p.block < 2 ^ 32) is short in
+    only_memory sample_plan number rounds fault refl few (kept number rounds few block) (sampled (λ p s. StopsAt fault p [] s) plan steps number rounds is are few short (λ kept. given))

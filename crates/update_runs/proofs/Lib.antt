@@ -3,5 +3,6 @@ mod StaysHonest
 mod SampleKept
 mod Updated
 mod Stands
+mod Moves
 mod Samples
 mod Exercises

@@ -1,5 +1,5 @@
--- The steps of a sample: how many, that they are ready, and that only memory can be missing.
-use Rattle.std.proofs.Common.{◌≡◌, ℕ, zero, suc, ◌+◌, ◌*◌, ◌<◌, ◌≤◌, inl, inr, List, [], ◌∷◌, map, length, refl, sym, ap, ◌∙◌, arith, All, Option, Some, None, IsSome}
+-- The steps of a sample: how many, that they are ready, and that only memory can run out.
+use Rattle.std.proofs.Common.{◌≡◌, ℕ, zero, suc, ◌+◌, ◌*◌, ◌<◌, ◌≤◌, ◌⊎◌, inl, inr, List, [], ◌∷◌, map, length, refl, sym, ap, ◌∙◌, arith, All, Option, Some, None, IsSome}
 use Rattle.std.specs.FinMap.{get}
 use Rattle.std.specs.List.{range_with_len}
 use Rattle.std.proofs.lemmas.List.Elements.{All-cons, All-nil}
@@ -12,8 +12,8 @@ use Rattle.sample_trees.proofs.Sizes.{is_small}
 use Rattle.tree_scan.specs.Plan.{Plan}
 use Rattle.update_runs.specs.declared.outcome.ListFault.{ListFault}
 use Rattle.update_runs.specs.declared.outcome.ListFault.TheVariants.{OutOfMemory, RootMissing, TooManyDirectories, TooManyNames}
-use Rattle.update_runs.specs.Runs.{IsReady, StopsAt}
-use Rattle.update_runs.specs.Single.{Refuses, scan_of}
+use Rattle.update_runs.specs.Runs.{IsReady, Kept, StopsAt}
+use Rattle.update_runs.specs.Single.{Passes, Refuses, scan_of}
 
 pub steps_count : (seed rounds : ℕ) → length (sample_steps seed rounds) ≡ rounds + 1
 unfolding sample_steps
@@ -46,11 +46,15 @@ not_refused plan old dirs names TooManyDirectories root h small refused =
     let many = refused.found.many_there refl in
     absurd (omega (arith, few, many))
 
-memory_from : (plan : Plan) (old : List ℕ) (seed from count : ℕ) (fault : ListFault) → plan.root ≡ 47 ∷ [] → from + count ≤ 256 → StopsAt fault plan old (map (step_after seed) (range_with_len from count)) → fault ≡ OutOfMemory
-memory_from plan old seed from zero fault root h stops = stops
-memory_from plan old seed from (suc count) fault root h (inl refused) = not_refused plan old (dirs_after seed from) (15 + 10 * from) fault root (omega arith) (is_small seed from) refused
-memory_from plan old seed from (suc count) fault root h (inr on) = memory_from plan (scan_of plan (step_after seed from)) seed (from + 1) count fault root (omega arith) on.1
+memory_from : (plan : Plan) (old : List ℕ) (seed from count : ℕ) (fault : ListFault) → plan.root ≡ 47 ∷ [] → from + count ≤ 256 → Kept plan old (map (step_after seed) (range_with_len from count)) → StopsAt fault plan old (map (step_after seed) (range_with_len from count)) → fault ≡ OutOfMemory
+memory_from plan old seed from zero fault root h kept stops = stops
+memory_from plan old seed from (suc count) fault root h kept stops = by (λ on. memory_from plan (scan_of plan (step_after seed from)) seed (from + 1) count fault root (omega arith) kept.1 on) (stops kept.0)
+  where
+    by : (StopsAt fault plan (scan_of plan (step_after seed from)) (map (step_after seed) (range_with_len (from + 1) count)) → fault ≡ OutOfMemory)
+        → Refuses plan old (dirs_after seed from) fault ⊎ (Passes plan old (dirs_after seed from) × StopsAt fault plan (scan_of plan (step_after seed from)) (map (step_after seed) (range_with_len (from + 1) count))) → fault ≡ OutOfMemory
+    by rest (inl refused) = not_refused plan old (dirs_after seed from) (15 + 10 * from) fault root (omega arith) (is_small seed from) refused
+    by rest (inr on) = rest on.1
 
-pub only_memory : (plan : Plan) (seed rounds : ℕ) (fault : ListFault) → plan.root ≡ 47 ∷ [] → rounds < 256 → StopsAt fault plan [] (sample_steps seed rounds) → fault ≡ OutOfMemory
+pub only_memory : (plan : Plan) (seed rounds : ℕ) (fault : ListFault) → plan.root ≡ 47 ∷ [] → rounds < 256 → Kept plan [] (sample_steps seed rounds) → StopsAt fault plan [] (sample_steps seed rounds) → fault ≡ OutOfMemory
 unfolding sample_steps
-only_memory plan seed rounds fault root h stops = memory_from plan [] seed 0 (rounds + 1) fault root (omega arith) stops
+only_memory plan seed rounds fault root h kept stops = memory_from plan [] seed 0 (rounds + 1) fault root (omega arith) kept stops

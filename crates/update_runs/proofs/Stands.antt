@@ -22,19 +22,20 @@ pub record Known (plan : Plan) (start : List ℕ) (all : List SampleStep) (old :
   pub ordered : IsTrue (is_ordered plan.root plan.block start) → IsTrue (is_ordered plan.root plan.block old)
   pub sum : IsTrue (is_ordered plan.root plan.block start) → opened_in_all plan start all ≡ openings + opened_in_all plan old rest
   pub passed : AllPass plan old rest → AllPass plan start all
-  pub stops : (fault : ListFault) → StopsAt fault plan old rest → StopsAt fault plan start all
 
 -- The steps that are left are ready, and the openings are no more than so many for each step.
 pub record Stands (plan : Plan) (start : List ℕ) (all : List SampleStep) (old : List ℕ) (directories openings : ℕ) (rest : List SampleStep) : Type 0 where
   pub ready : All IsReady rest
   pub bound : openings + 4294967295 * length rest ≤ 4294967295 * length all
+  pub stops : (fault : ListFault) → StopsAt fault plan old rest → StopsAt fault plan start all
   pub known : Kept plan start all → Known plan start all old directories openings rest
 
 pub stands_first : (plan : Plan) (start : List ℕ) (all : List SampleStep) → All IsReady all → Stands plan start all start 0 0 all
 stands_first plan start all ready = record {
   ready = ready;
   bound = omega arith;
-  known = λ kept. record { kept = kept; last = refl; heads = refl; ordered = λ o. o; sum = λ o. omega arith; passed = λ p. p; stops = λ fault s. s };
+  stops = λ fault s. s;
+  known = λ kept. record { kept = kept; last = refl; heads = refl; ordered = λ o. o; sum = λ o. omega arith; passed = λ p. p };
 }
 
 known_next : (plan : Plan) (start : List ℕ) (all : List SampleStep) (old : List ℕ) (directories openings : ℕ) (step : SampleStep) (rest : List SampleStep) (counts : StepCounts) (made : List ℕ) → IsPlan plan
@@ -52,7 +53,6 @@ known_next plan start all old directories openings step rest counts made p known
           let more : opened_in_all plan (scan_of plan step) rest ≡ opened_in_all plan made rest = ap (λ (x : List ℕ). opened_in_all plan x rest) is in
           added (opened_in_all plan start all) openings (opened_in plan old step.tree.dirs) counts.opened _ _ before opened more;
       passed = λ a. known.passed (did.passes, subst (λ (x : List ℕ). AllPass plan x rest) (sym is) a);
-      stops = λ fault s. known.stops fault (inr (did.passes, subst (λ (x : List ℕ). StopsAt fault plan x rest) (sym is) s));
     }
   where
     added : (all openings now opened left more : ℕ) → all ≡ openings + (now + left) → opened ≡ now → left ≡ more → all ≡ openings + opened + more
@@ -64,6 +64,7 @@ pub stands_next : (plan : Plan) (start : List ℕ) (all : List SampleStep) (old 
 stands_next plan start all old directories openings step rest counts made p stands few did = record {
   ready = All-tail IsReady step rest stands.ready;
   bound = (let b = stands.bound in omega arith);
+  stops = λ fault s. stands.stops fault (λ honest. let u = did honest in inr (u.passes, subst (λ (x : List ℕ). StopsAt fault plan x rest) u.scanned s));
   known = λ kept. let known = stands.known kept in known_next plan start all old directories openings step rest counts made p known (did known.kept.0);
 }
 
@@ -78,15 +79,14 @@ stands_done plan start all list stands kept =
     }
 
 pub stands_stopped : (plan : Plan) (start : List ℕ) (all : List SampleStep) (old : List ℕ) (directories openings : ℕ) (step : SampleStep) (rest : List SampleStep) (fault : ListFault)
-    → Stands plan start all old directories openings (step ∷ rest) → (IsHonest plan old step.tree.dirs → Refuses plan old step.tree.dirs fault) → Kept plan start all → StopsAt fault plan start all
-stands_stopped plan start all old directories openings step rest fault stands refused kept =
-    let known = stands.known kept in
-    known.stops fault (inl (refused known.kept.0))
+    → Stands plan start all old directories openings (step ∷ rest) → (IsHonest plan old step.tree.dirs → Refuses plan old step.tree.dirs fault) → StopsAt fault plan start all
+stands_stopped plan start all old directories openings step rest fault stands refused = stands.stops fault (λ honest. inl (refused honest))
 
--- want of memory stops at any step
+-- memory may run out at any step
 pub memory_stops : (plan : Plan) (old : List ℕ) (steps : List SampleStep) → StopsAt OutOfMemory plan old steps
 memory_stops plan old [] = refl
-memory_stops plan old (step ∷ steps) = inl (record {
+memory_stops plan old (step ∷ steps) = λ honest. inl (record {
+  lacking = λ gone. inr refl;
   found = record { missing = λ e. absurd cc; wide_there = λ e. absurd cc; many_there = λ e. absurd cc };
   exceeded = record { wide_reached = λ e. absurd cc; many_tried = λ e. absurd cc };
 })

@@ -1,5 +1,5 @@
 -- What one update comes to, from what its scan has told.
-use Rattle.std.specs.Prelude.{is_some, IsErrOf, MatchBool, Ok}
+use Rattle.std.specs.Prelude.{is_some, Err, IsErrOf, MatchBool, Ok, Result}
 use Rattle.std.proofs.Common.{◌≡◌, ℕ, ◌+◌, ◌-◌, ◌≤◌, ◌^◌, Bool, true, false, ◌&&◌, List, [], ◌++◌, refl, sym, ap, ◌∙◌, subst, arith, Option, Some, None, IsSome, IsTrue, ◌⊎◌, inl, inr}
 use Rattle.std.specs.FinMap.{get}
 use Rattle.std.specs.Io.KnownBytes.{Appends}
@@ -14,14 +14,15 @@ use Rattle.tree_scan.specs.Blocks.{scan_text}
 use Rattle.tree_scan.specs.Plan.{Plan}
 use Rattle.tree_scan.specs.Records.{Honest, Record, answers_all}
 use Rattle.tree_scan.specs.Records.{known as known_of}
-use Rattle.tree_scan.specs.Scans.{Completed, Exceeded, Found, WhereKnown, usual}
+use Rattle.tree_scan.specs.Scans.{AskedOf, Completed, Exceeded, Found, WhereKnown, usual}
 use Rattle.dir_reuse.specs.declared.cursor.Cursor.{Cursor}
 use Rattle.dir_reuse.specs.Stream.{OpensKnown, is_known_ordered, known}
 use Rattle.dir_reuse.specs.Usable.{is_ordered, records}
 use Rattle.update_runs.specs.declared.outcome.ListFault.{ListFault}
+use Rattle.update_runs.specs.declared.outcome.ListFault.TheVariants as list
 use Rattle.update_runs.specs.declared.single.StepCounts.{StepCounts}
 use Rattle.update_runs.specs.Faults.{fault_of, in_scan}
-use Rattle.update_runs.specs.Single.{IsHonest, Refuses, Updates}
+use Rattle.update_runs.specs.Single.{IsHonest, Refuses, Updates, opened_in}
 
 -- ---- the old database
 
@@ -84,6 +85,18 @@ updated plan old step rs all limits held made scanned counts echo echo' o o' ope
       opened = λ ordered. taken_off counts.opened o o' _ opened (did.opened_once (subst (λ (b : Bool). IsTrue b) (sym opens.whole) ordered) few);
     }
 
+-- ---- how often directories were opened
+
+pub asked : (plan : Plan) (old : List ℕ) (dirs : Dirs) (rs : Option (List Record)) (all : Bool) (priced : List ℕ → Bool) (o o' times times' : ℕ) → Opened plan old rs all
+    → WhereKnown (Some dirs) rs plan (λ d records. AskedOf records all d plan priced o o' times times') → IsHonest plan old dirs → IsTrue (is_ordered plan.root plan.block old) → o' ≤ o + opened_in plan old dirs
+asked plan old dirs rs all priced o o' times times' opens asks honest ordered =
+    let h : Honest rs dirs plan = subst (λ (r : Option (List Record)). Honest r dirs plan) (sym opens.told) honest in
+    let did : AskedOf (records plan.root plan.block old) all dirs plan priced o o' times times' = subst (λ (x : List Record). AskedOf x all dirs plan priced o o' times times') (ap known_of opens.told) (asks dirs refl h) in
+    did.unvouched_alone (subst (λ (b : Bool). IsTrue b) (sym opens.whole) ordered)
+
+pub risen : (opened o o' : ℕ) → opened ≡ o' - o → o' ≤ o + opened
+risen opened o o' e = omega (arith, e)
+
 -- ---- it was refused
 
 found_again : (f : ScanFault) (root : List ℕ) (dirs : Dirs) → Found f usual root dirs → Found (in_scan (fault_of f)) usual root dirs
@@ -102,14 +115,33 @@ exceeded_again scan.OutOfMemory rs all dirs plan found = found
 exceeded_again scan.TreeFault rs all dirs plan found = record { wide_reached = λ e. absurd cc; many_tried = λ e. absurd cc }
 exceeded_again scan.WriteFault rs all dirs plan found = record { wide_reached = λ e. absurd cc; many_tried = λ e. absurd cc }
 
+pub found_of : (limits : Limits) (f : ScanFault) (fault : ListFault) (root : List ℕ) (dirs : Dirs) → limits ≡ usual → fault ≡ fault_of f → ((d : Dirs) → Some dirs ≡ Some d → Found f limits root d) → Found (in_scan fault) usual root dirs
+found_of limits f fault root dirs is said found =
+    let there : Found f usual root dirs = subst (λ (x : Limits). Found f x root dirs) is (found dirs refl) in
+    subst (λ (x : ListFault). Found (in_scan x) usual root dirs) (sym said) (found_again f root dirs there)
+
+-- the answer of a scan that ended with this fault
+abbrev failed : ScanFault → Result Counts ScanFault
+failed f = Err f
+
+-- the answer to that of a scan; one that was done has none
+abbrev fault_in : Result Counts ScanFault → ListFault
+fault_in (Ok counts) = list.OutOfMemory
+fault_in (Err f) = fault_of f
+
+lacks : (f : ScanFault) → IsErrOf (failed f) scan.RootMissing ⊎ IsErrOf (failed f) scan.TreeFault → (fault_of f ≡ list.RootMissing) ⊎ (fault_of f ≡ list.OutOfMemory)
+lacks f (inl e) = inl (ap fault_in e)
+lacks f (inr e) = inr (ap fault_in e)
+
 pub refused : (plan : Plan) (old : List ℕ) (dirs : Dirs) (rs : Option (List Record)) (all : Bool) (limits : Limits) (f : ScanFault) (fault : ListFault) → Opened plan old rs all → limits ≡ usual → fault ≡ fault_of f
     → ((d : Dirs) → Some dirs ≡ Some d → Found f limits plan.root d) → WhereKnown (Some dirs) rs plan (λ d records. Exceeded f limits records all d plan)
+    → ((d : Dirs) → Some dirs ≡ Some d → get d plan.root ≡ None → IsErrOf (failed f) scan.RootMissing ⊎ IsErrOf (failed f) scan.TreeFault)
     → IsHonest plan old dirs → Refuses plan old dirs fault
-refused plan old dirs rs all limits f fault opens is said found exceeded honest =
+refused plan old dirs rs all limits f fault opens is said found exceeded lacking honest =
     let h : Honest rs dirs plan = subst (λ (r : Option (List Record)). Honest r dirs plan) (sym opens.told) honest in
     let rest : known_of rs ≡ records plan.root plan.block old = ap known_of opens.told in
     let there : Found f usual plan.root dirs = subst (λ (x : Limits). Found f x plan.root dirs) is (found dirs refl) in
     let over : Exceeded f usual (records plan.root plan.block old) (is_ordered plan.root plan.block old) dirs plan =
     subst (λ (b : Bool). Exceeded f usual (records plan.root plan.block old) b dirs plan) opens.whole
     (subst (λ (x : List Record). Exceeded f usual x all dirs plan) rest (subst (λ (x : Limits). Exceeded f x (known_of rs) all dirs plan) is (exceeded dirs refl h))) in
-    subst (λ (x : ListFault). Refuses plan old dirs x) (sym said) (record { found = found_again f plan.root dirs there; exceeded = exceeded_again f (records plan.root plan.block old) (is_ordered plan.root plan.block old) dirs plan over })
+    subst (λ (x : ListFault). Refuses plan old dirs x) (sym said) (record { found = found_again f plan.root dirs there; lacking = λ gone. lacks f (lacking dirs refl gone); exceeded = exceeded_again f (records plan.root plan.block old) (is_ordered plan.root plan.block old) dirs plan over })

@@ -9,7 +9,8 @@ use Rattle.tree_scan.specs.Plans.{is_pruned}
 use Rattle.update_runs.specs.declared.exercising.Exercised.{Exercised}
 use Rattle.update_runs.specs.Runs.{last_database, last_reached, opened_in_all}
 
--- from `/` on, with the default configuration and no mounts, and paths shown only to those who may list their directories
+-- from `/` on, in version 0, with the default configuration and no mounts, and paths shown only to those who may list their
+-- directories; nothing is echoed
 abbrev pub sample_plan : Plan
 sample_plan = record {
   root = 47 ∷ [];
@@ -22,8 +23,8 @@ sample_plan = record {
   device_of = device_of [];
 }
 
--- The sample of this number is updated step by step, from no database on: how many directories the last database has, how
--- many were opened in all steps, and how many bytes the last database has.
+-- What the updates of this sample's steps come to, the first over an empty file: the rounds, the directories of the last database,
+-- the openings that all steps need, and the bytes of the last database.
 abbrev pub exercised : ℕ → ℕ → Exercised
 exercised number rounds = record {
   rounds = rounds;

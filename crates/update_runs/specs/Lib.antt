@@ -1,4 +1,4 @@
-pub mod Exercises
-pub mod Runs
-pub mod Single
 pub mod Faults
+pub mod Single
+pub mod Runs
+pub mod Exercises

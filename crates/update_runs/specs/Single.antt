@@ -1,6 +1,8 @@
 -- One update, over an old database.
-use Rattle.std.specs.Prelude.{◌≡◌, ◌≤◌, ℕ, List, length, IsSome, IsTrue, Some}
+use Rattle.std.specs.Prelude.{◌≡◌, ◌≤◌, ◌⊎◌, ℕ, List, length, min, IsSome, IsTrue, Some, None}
 use Rattle.std.specs.FinMap.{get}
+use Rattle.path_order.specs.Stamp.{Moment}
+use Rattle.loc_outside.specs.Causes.{last_count}
 use Rattle.loc_outside.specs.Trees.{Dirs}
 use Rattle.sample_trees.specs.declared.step.SampleStep.{SampleStep}
 use Rattle.tree_scan.specs.Blocks.{scan_text}
@@ -11,8 +13,17 @@ use Rattle.tree_scan.specs.Scans.{Exceeded, Found, usual}
 use Rattle.tree_scan.specs.Stops.{Narrow}
 use Rattle.dir_reuse.specs.Usable.{is_ordered, records}
 use Rattle.update_runs.specs.declared.outcome.ListFault.{ListFault}
+use Rattle.update_runs.specs.declared.outcome.ListFault.TheVariants as list
 use Rattle.update_runs.specs.declared.single.StepCounts.{StepCounts}
 use Rattle.update_runs.specs.Faults.{in_scan}
+
+-- what an update leaves as it was in a step: its moment and the directories of its tree
+abbrev pub shown_by : SampleStep → Moment × Dirs
+shown_by step = (step.now, step.tree.dirs)
+
+-- how often directories of a step's tree were opened, up to 2^64 - 1
+abbrev pub openings_in : SampleStep → ℕ
+openings_in step = min step.tree.openings last_count
 
 -- the database that the update of a step makes: the complete scan of its tree
 abbrev pub scan_of : Plan → SampleStep → List ℕ
@@ -32,10 +43,11 @@ pub record Passes (plan : Plan) (old : List ℕ) (dirs : Dirs) : Type 0 where
   pub few : length (tried dirs plan.pruned plan.root) ≤ 4294967295
   pub narrow : Narrow 16777216 (unvouched (records plan.root plan.block old) plan (reached dirs plan.pruned plan.root))
 
--- What a fault tells: the root is missing, or a limit is passed; that memory ran out tells nothing. That too many names are
--- listed where no record vouches is known of an old database that is in order.
+-- What a fault tells: the root is missing, or a limit is passed; that memory ran out tells nothing. That too many names are listed
+-- where no record vouches is known only if the old database is in order. A missing root is told, unless memory runs out.
 pub record Refuses (plan : Plan) (old : List ℕ) (dirs : Dirs) (fault : ListFault) : Type 0 where
   pub found : Found (in_scan fault) usual plan.root dirs
+  pub lacking : get dirs plan.root ≡ None → (fault ≡ list.RootMissing) ⊎ (fault ≡ list.OutOfMemory)
   pub exceeded : Exceeded (in_scan fault) usual (records plan.root plan.block old) (is_ordered plan.root plan.block old) dirs plan
 
 -- What an update has done that was not refused, with these counts and this database.

@@ -1,8 +1,8 @@
 //! A list of updates.
-ghost use Rattle.std.specs.Prelude.{◌≡◌, ◌≤◌, ◌<◌, ◌^◌, All, length, IfOk, IfErr, IsTrue};
+ghost use Rattle.std.specs.Prelude.{◌≡◌, ◌+◌, ◌≤◌, ◌<◌, ◌^◌, All, length, IfOk, IfErr, IsTrue};
 ghost use Rattle.path_order.specs.Path.{is_normal};
 ghost use Rattle.tree_scan.specs.Plans.{plan_of};
-ghost use Rattle.update_runs.specs.Runs.{Comes, IsReady, Kept, StopsAt};
+ghost use Rattle.update_runs.specs.Runs.{Asks, Comes, IsReady, IsSeen, Kept, StopsAt, openings_of, trees_of};
 
 use crate::UpdateStep;
 use crate::outcome::{ListFault, ListResult};
@@ -28,7 +28,10 @@ pub fn update_list(
     requires count { length steps.old ≤ 4294967295 }
     requires ready { All IsReady steps.old }
     ensures done { IfOk result (λ list. Kept (plan_of rules.now) start.now steps.old → Comes (plan_of rules.now) start.now steps.old list) }
-    ensures stopped { IfErr result (λ fault. Kept (plan_of rules.now) start.now steps.old → StopsAt fault (plan_of rules.now) start.now steps.old) }
+    ensures counted { IfOk result (λ list. openings_of steps.new ≤ openings_of steps.old + list.openings) }
+    ensures asks { Asks (plan_of rules.now) start.now steps.old steps.new }
+    ensures seen { IfErr result (λ fault. IsSeen fault rules.now.root (trees_of steps.old)) }
+    ensures stopped { IfErr result (λ fault. StopsAt fault (plan_of rules.now) start.now steps.old) }
 {
     let Ok(block) = conf_block(alloc, &rules.conf) else {
         return Err(ListFault::OutOfMemory);

@@ -1,9 +1,11 @@
 //! One update, over an old database in memory.
-ghost use Rattle.std.specs.Prelude.{◌≡◌, ◌≤◌, ◌<◌, ◌^◌, [], length, IfOk, IfErr, IsTrue};
+ghost use Rattle.std.specs.Prelude.{◌≡◌, ◌+◌, ◌≤◌, ◌<◌, ◌^◌, [], length, IfOk, IfErr, IsTrue};
 ghost use Rattle.path_order.specs.Path.{is_normal};
 ghost use Rattle.tree_scan.specs.Plans.{plan_of};
-ghost use Rattle.update_runs.specs.Faults.{fault_of};
-ghost use Rattle.update_runs.specs.Single.{IsHonest, Refuses, Updates};
+ghost use Rattle.tree_scan.specs.Scans.{Found, usual};
+ghost use Rattle.dir_reuse.specs.Usable.{is_ordered};
+ghost use Rattle.update_runs.specs.Faults.{fault_of, in_scan};
+ghost use Rattle.update_runs.specs.Single.{IsHonest, Refuses, Updates, opened_in, openings_in, shown_by};
 
 use crate::UpdateStep;
 use crate::outcome::ListFault;
@@ -20,7 +22,7 @@ pub(crate) struct StepCounts {
     pub(crate) directories: u64,
 }
 
-/// The answer to a scan's fault. A write to memory fails only where that runs out.
+/// The answer to a scan's fault. A write to memory fails only if memory runs out.
 fn fault_of_scan(fault: ScanFault) -> ListFault
     ensures { result ≡ fault_of fault }
 {
@@ -52,6 +54,10 @@ pub(crate) fn update_step(
     requires empty { into.old.held.pending ≡ [] }
     ensures done { IfOk result (λ counts. IsHonest (plan_of rules.now) old.now step.old.tree.dirs → Updates (plan_of rules.now) old.now step.old counts into.new.held.pending) }
     ensures few { IfOk result (λ counts. counts.opened ≤ 4294967295) }
+    ensures counted { IfOk result (λ counts. openings_in step.new ≤ openings_in step.old + counts.opened) }
+    ensures asked { IsHonest (plan_of rules.now) old.now step.old.tree.dirs → IsTrue (is_ordered (plan_of rules.now).root (plan_of rules.now).block old.now) → openings_in step.new ≤ openings_in step.old + opened_in (plan_of rules.now) old.now step.old.tree.dirs }
+    ensures same { shown_by step.new ≡ shown_by step.old }
+    ensures found { IfErr result (λ fault. Found (in_scan fault) usual rules.now.root step.old.tree.dirs) }
     ensures refused { IfErr result (λ fault. IsHonest (plan_of rules.now) old.now step.old.tree.dirs → Refuses (plan_of rules.now) old.now step.old.tree.dirs fault) }
 {
     let before = step.tree.openings();

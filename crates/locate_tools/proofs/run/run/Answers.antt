@@ -1,15 +1,17 @@
 use Rattle.std.specs.Prelude.{Err}
 use Rattle.std.proofs.Common.{[], Option, refl, sym, ap, ◌∙◌}
 use Rattle.tool_words.specs.ConvertSeen.{seen as convert_seen}
+use Rattle.tool_words.specs.ExerciseSeen.{seen as exercise_seen}
 use Rattle.tool_words.specs.LocateSeen.{seen as locate_seen}
 use Rattle.tool_words.specs.UpdatedbSeen.{seen as updatedb_seen}
 use Rattle.tool_words.specs.declared.tool.Tool.{Tool}
 use Rattle.locate_tools.specs.Calls.{tool_called}
 use Rattle.locate_tools.specs.Statuses.{status_of}
 use Rattle.locate_tools.specs.declared.answer.Cause.TheVariants as causes
-use Rattle.locate_tools.proofs.Doing.{does_by, leaves_all, leaves_convert, leaves_locate, leaves_updatedb, told_by, works_convert, works_locate, works_memory, works_refused, works_updatedb}
+use Rattle.locate_tools.proofs.Doing.{does_by, leaves_all, leaves_convert, leaves_exercise, leaves_locate, leaves_updatedb, told_by, works_convert, works_exercise, works_locate, works_memory, works_refused, works_updatedb}
+use Rattle.locate_tools.proofs.Exercising.{exercise_passes_on}
 use Rattle.locate_tools.proofs.Runs.{does_pass_on}
-use Rattle.locate_tools.proofs.ToldOf.{told_convert, told_locate, told_memory, told_refused, told_updatedb, tool_of_convert, tool_of_locate, tool_of_updatedb}
+use Rattle.locate_tools.proofs.ToldOf.{told_convert, told_exercise, told_locate, told_memory, told_refused, told_updatedb, tool_of_convert, tool_of_exercise, tool_of_locate, tool_of_updatedb}
 use Rattle.locate_tools.proofs.run.run.Goals as goal
 
 pub returns-in-Err-Usage-clause-does : goal.returns-in-Err-Usage-clause-does
@@ -24,7 +26,7 @@ returns-in-Err-Usage-clause-does g c =
 pub returns-in-Err-OutOfMemory-clause-does : goal.returns-in-Err-OutOfMemory-clause-does
 returns-in-Err-OutOfMemory-clause-does g c =
     let said = c.ended-in-Err-OutOfMemory.ensures in
-    does_by c.args.call.now _ c.ended-in-Err-OutOfMemory.result _ _ (works_memory _ _ _ _ _ said.cause said.outcomes refl refl refl)
+    does_by c.args.call.now _ c.ended-in-Err-OutOfMemory.result _ _ (works_memory _ _ _ _ _ said.cause said.outcomes refl refl refl refl)
     (said.status ∙ sym (ap (status_of (tool_called c.args.call.now)) said.cause))
     (told_memory c.args.call.now c.tool-in-Err-OutOfMemory.result c.tool-in-Err-OutOfMemory.ensures ∙ told_by c.args.call.now [] c.ended-in-Err-OutOfMemory.result.outcomes causes.OutOfMemory c.ended-in-Err-OutOfMemory.result.cause said.outcomes said.cause)
     said.told said.told_part (λ sound out. out) refl said.err_later
@@ -78,3 +80,18 @@ returns-in-Convert-clause-leaves g c =
     let said = c.run_convert.ensures in
     let asks = rw c.in-Convert.is at c.in-Ok.ensures.accepted in
     leaves_convert _ (convert_seen c.in-Convert.asked) _ _ _ _ _ _ asks (record { tree_same = refl; gate_same = refl; out_same = refl; unwritten = said.unwritten })
+
+pub returns-in-Exercise-clause-does : goal.returns-in-Exercise-clause-does
+returns-in-Exercise-clause-does g c =
+    let said = c.run_exercise.ensures in
+    let asks = rw c.in-Exercise.is at c.in-Ok.ensures.accepted in
+    does_by c.args.call.now _ c.run_exercise.result _ _
+    (works_exercise _ (exercise_seen c.in-Exercise.asked) _ _ _ _ asks (record { run = said.run; outcomes = said.outcomes }))
+    (said.status ∙ ap (λ (t : Option Tool). status_of t c.run_exercise.result.cause) (sym (tool_of_exercise _ _ asks)))
+    (told_exercise _ _ c.run_exercise.result.cause asks ∙ told_by c.args.call.now _ c.run_exercise.result.outcomes _ c.run_exercise.result.cause said.outcomes refl) said.told said.told_part (exercise_passes_on _ _ _ _ said.run) refl said.err_later
+
+pub returns-in-Exercise-clause-leaves : goal.returns-in-Exercise-clause-leaves
+returns-in-Exercise-clause-leaves g c =
+    let said = c.run_exercise.ensures in
+    let asks = rw c.in-Exercise.is at c.in-Ok.ensures.accepted in
+    leaves_exercise _ (exercise_seen c.in-Exercise.asked) _ _ _ _ _ _ asks (record { reader_same = refl; tree_same = refl; gate_same = refl; output_same = refl; unwritten = said.unwritten })
