@@ -1,4 +1,4 @@
-//! The paths of a database of any of the three formats, which is told from the bytes that it begins with.
+//! The paths of a database of any of the three formats, which is known from the bytes that it begins with.
 #![tactic(auto)]
 
 mod any_reader;

@@ -45,13 +45,13 @@ TookKnown f (Some l) f' (Some l') text = Took f l f' l' text
 abbrev pub reach : FeedState → ℕ
 reach f = f.offset + length f.held
 
--- so many bytes were taken off those left, where they are told
+-- so many bytes were taken off those left, where they are known
 abbrev pub LeftAfter : ℕ → Option (List ℕ) → Option (List ℕ) → Type 0
 LeftAfter n None left' = ⊤
 LeftAfter n (Some l) None = ⊥
 LeftAfter n (Some l) (Some l') = (n ≤ length l) × (l' ≡ drop n l)
 
--- no byte is left now, where those left are told
+-- no byte is left now, where those left are known
 abbrev pub NoneLeft : Option (List ℕ) → Option (List ℕ) → Type 0
 NoneLeft None left' = ⊤
 NoneLeft (Some l) left' = IsAtEnd left'

@@ -41,7 +41,7 @@ demand holds cause = if holds then Ok tt else Err (Broken cause)
 abbrev pub is_zero : ℕ → Bool
 is_zero b = b == 0
 
--- The bytes before the first zero byte, which is passed over. There may be `room` of them at most.
+-- The bytes before the first zero byte, which is skipped. There may be `room` of them at most.
 unfoldable pub ended_at : ℕ → Reads (List ℕ)
 ended_at room bytes =
     let len = position_or_len is_zero bytes in

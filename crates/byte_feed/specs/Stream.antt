@@ -58,7 +58,7 @@ IsFault r = ⊥
 abbrev pub broken_at : ℕ → Stop → Break
 broken_at end s = if is_cut s && (end == limit) then TooLarge else Stopped s
 
--- ---- bytes that are passed over or compared
+-- ---- bytes that are skipped or compared
 
 -- So many bytes were taken.
 pub record Skips (count : ℕ) (f : FeedState) (left : List ℕ) (f' : FeedState) (left' : List ℕ) : Type 0 where

@@ -44,7 +44,7 @@ pub fn read_byte<S: Source>(feed: &mut Feed, src: &mut S) -> Result<u8, Break>
     }
 }
 
-/// Appends a text that ends at a zero byte, which is passed over, and answers its number of bytes. Where it does not
+/// Appends a text that ends at a zero byte, which is skipped, and answers its number of bytes. Where it does not
 /// fit into `into`, of at most 4,096 bytes, it is too long.
 #[inline(always)]
 pub fn read_ended<S: Source>(
@@ -109,7 +109,7 @@ fn read_long_ended<S: Source>(
     }
 }
 
-/// Appends a text of at least one byte that ends at a zero byte, which is passed over. Where the zero byte comes at
+/// Appends a text of at least one byte that ends at a zero byte, which is skipped. Where the zero byte comes at
 /// once, `empty` is the cause.
 #[inline(always)]
 pub fn read_text<S: Source>(

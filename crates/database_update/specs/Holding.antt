@@ -15,14 +15,14 @@ with_file name bytes held = record { stored = insert held.stored name bytes; nam
 abbrev pub with_pending : List ℕ → List ℕ → Held → Held
 with_pending name bytes held = record { stored = held.stored; name = Some name; pending = bytes }
 
--- the stored files, and the pending bytes, where they are told
+-- the stored files, and the pending bytes, where they are known
 abbrev pub stored_in : Option Held → Option Files
 stored_in held = option_map (λ h. h.stored) held
 
 abbrev pub pending_in : Option Held → Option (List ℕ)
 pending_in held = option_map (λ h. h.pending) held
 
--- no byte is pending, where that is told
+-- no byte is pending, where that is known
 abbrev pub none_pending : Option Held → Option (List ℕ)
 none_pending held = option_map (λ _. []) held
 

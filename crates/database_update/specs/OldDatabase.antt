@@ -47,7 +47,7 @@ abbrev pub is_reused_whole : Option (List ℕ) → Plan → ℕ → ℕ → Bool
 is_reused_whole None plan faults faults' = true
 is_reused_whole (Some file) plan faults faults' = is_ordered plan.root plan.block file && not (has_risen faults faults')
 
--- What holds of the directories, of the plan and of the old database, where they are told, the files give a plan, and the
+-- What holds of the directories, of the plan and of the old database, where they are known, the files give a plan, and the
 -- records of the old database are honest.
 abbrev pub WhereHonest : Option Files → Option Dirs → UpdatedbAsked → (Dirs → Plan → Option (List ℕ) → Type 0) → Type 0
 WhereHonest files dirs asked holds =

@@ -67,7 +67,7 @@ plan_in files asked = do
   mounts ← mounts_in files
   Ok (plan_of (rules_of asked conf mounts))
 
--- What holds of the directories and of the plan, where the files and the directories are told and the files give a
+-- What holds of the directories and of the plan, where the files and the directories are known and the files give a
 -- plan.
 abbrev pub WherePlanned : Option Files → Option Dirs → UpdatedbAsked → (Dirs → Plan → Type 0) → Type 0
 WherePlanned files dirs asked holds =

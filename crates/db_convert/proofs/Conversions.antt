@@ -46,7 +46,7 @@ is_ok r paths is = subst (λ (q : Paths). IsOk q) (sym is) refl
 
 -- ---- before the output was begun
 
--- It ended with a refusal of the input, with a failed read or for want of memory, and the output is as it was.
+-- It ended with a refusal of the input, with a failed read or out of memory, and the output is as it was.
 pub record EndsEarly (asked : Asked) (a a' : Around) (fault : ConvertFault) : Type 0 where
   pub refused : fault ≢ OutOfMemory → fault ≢ ReadFault → (files : Files) → a.files ≡ Some files → paths_in files asked.input asked.from asked.to ≡ Err fault
   pub read_fault : fault ≡ ReadFault → Rose a.reads_failed a'.reads_failed
@@ -177,7 +177,7 @@ converted asked a a' paths w none files told = ap (then_admitted asked.to) (w.re
 same_paths : (r : Paths) (paths others : List (List ℕ)) → r ≡ Ok paths → r ≡ Ok others → paths ≡ others
 same_paths r paths others is too = let both : ◌≡◌ {A = Paths} (Ok paths) (Ok others) = sym is ∙ too in cc
 
--- what holds of them holds where the files are told
+-- what holds of them holds where the files are known
 where_told : (asked : Asked) (a a' : Around) (paths : List (List ℕ)) (P : List (List ℕ) → Type 0) → WasRead asked a a' paths → first_refused asked.to paths ≡ None → P paths → WhereTold asked a P
 where_told asked a a' paths P w none h files others told is = subst P (same_paths _ paths others (converted asked a a' paths w none files told) is) h
 

@@ -44,7 +44,7 @@ pub record CanWrite (to : Format) (paths : List (List ℕ)) : Type 0 where
   pub admitted : first_refused to paths ≡ None
   pub below : length (encode to paths) < feed.limit
 
--- the databases among the formats, which are told from their bytes
+-- the databases among the formats, which are known from their bytes
 abbrev pub database_format : Format → Option DatabaseFormat
 database_format formats.Mlocate = Some databases.Mlocate
 database_format formats.Locate02 = Some databases.Locate02

@@ -93,7 +93,7 @@ with_file name text held = committed (grown text (begun name held))
 abbrev pub PendsPart : List ℕ → List ℕ → Option Held → Option Held → Type 0
 PendsPart name text old new = (n : ℕ) × (n ≤ length text) × (new ≡ option_map (λ held. grown (take n text) (begun name held)) old)
 
--- the stored files, where they are told
+-- the stored files, where they are known
 abbrev pub stored_in : Option Held → Option Files
 stored_in held = option_map (λ h. h.stored) held
 
@@ -118,15 +118,15 @@ pub record Asked : Type 0 where
   pub input : List ℕ
   pub target : List ℕ
 
--- what holds of the paths that are converted, where the files are told and there are such paths
+-- what holds of the paths that are converted, where the files are known and there are such paths
 abbrev pub WhereTold : Asked → Around → (List (List ℕ) → Type 0) → Type 0
 WhereTold asked a holds = (files : Files) (paths : List (List ℕ)) → a.files ≡ Some files → paths_in files asked.input asked.from asked.to ≡ Ok paths → holds paths
 
--- what holds of the fault, where the files are told and the input is refused with it
+-- what holds of the fault, where the files are known and the input is refused with it
 abbrev pub WhereRefused : Asked → Around → (ConvertFault → Type 0) → Type 0
 WhereRefused asked a holds = (files : Files) (fault : ConvertFault) → a.files ≡ Some files → paths_in files asked.input asked.from asked.to ≡ Err fault → holds fault
 
--- there are paths to convert, where the files are told
+-- there are paths to convert, where the files are known
 abbrev pub IsAccepted : Asked → Around → Type 0
 IsAccepted asked a = (files : Files) → a.files ≡ Some files → IsOk (paths_in files asked.input asked.from asked.to)
 

@@ -50,7 +50,7 @@ pub(crate) fn base(path: &[u8]) -> &[u8]
     &path[name_start(path)..]
 }
 
-/// Compares two texts in path order. What both begin with is passed over in blocks.
+/// Compares two texts in path order. What both begin with is skipped in blocks.
 #[inline(always)]
 pub(crate) fn compare_directories(a: &[u8], b: &[u8]) -> Ordering
     ensures { result ≡ path_cmp a.now b.now }

@@ -37,7 +37,7 @@ impl Model for Glob {
 
 impl Glob {
     /// Reads a pattern, of any bytes. Where `fold`, ASCII letters match in either case. It fails only
-    /// for want of memory.
+    /// when out of memory.
     #[tactic(auto, unfolding(crate::specs::Pattern::wanted))]
     pub fn read(alloc: Global, pattern: &[u8], fold: bool) -> Result<Glob, AllocError>
         ensures { IfOk result (λ glob. glob ≡ wanted pattern.now fold) }

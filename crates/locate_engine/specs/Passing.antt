@@ -29,7 +29,7 @@ rule_of wanted query gated tests = record {
   count_only = query.count_only;
 }
 
--- The gate's tests, where they are told. Where nobody has to ask the gate, any will do.
+-- The gate's tests, where they are known. Where nobody has to ask the gate, any will do.
 abbrev pub tests_asked : Bool → Option Tests → Option Tests
 tests_asked asks tests = if asks then tests else Some (record { shows = λ dir. true; exists = λ follow path. true })
 

@@ -42,8 +42,8 @@ use std::io::ErrorKind;
 use std::process::ExitCode;
 use std::time::{SystemTime, UNIX_EPOCH};
 
-/// The words after the program's own name, or the cause for which there are none: a word that is not UTF-8, or want of
-/// memory.
+/// The words after the program's own name, or the cause for which there are none: a word that is not UTF-8, or no
+/// memory left.
 fn given_words(rt: HostRuntime) -> Result<Vec<String>, Cause> {
     match env::args(&rt) {
         Ok(words) => match words.skip(1).collect(rt.alloc()) {

@@ -51,7 +51,7 @@ none_outside value outside = grind (arith, nat_tests)
 pub some_inside : (value : ℕ) → 0 < value → value ≤ 255 → cond (is_in_range 1 255 value) (Some value) None ≡ Some value
 some_inside value above below = grind (arith, nat_tests)
 
--- what is passed over
+-- what is skipped
 unescaped_past-drop : (k : ℕ) (text : List ℕ) → unescaped_past k text ≡ unescaped_past 0 (drop k text)
 unfolding unescaped_past
 unescaped_past-drop zero text = refl

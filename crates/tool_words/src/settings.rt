@@ -70,7 +70,7 @@ pub struct LocateSettings<'a> {
     pub separator: u8,
     /// Databases that can't be searched to their end are not reported.
     pub quiet: bool,
-    /// Statistics of the databases are written, and the patterns are passed over.
+    /// Statistics of the databases are written, and the patterns are ignored.
     pub statistics: bool,
     /// The most paths that are found.
     pub limit: Option<u64>,

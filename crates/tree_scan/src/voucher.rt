@@ -32,7 +32,7 @@ pub trait Voucher {
 
     /// Whether a record vouches for the directory of this whole path, which has this time and lies on this device,
     /// whatever is written of them. If so, `into` holds the record's names, else it is empty.
-    /// After want of memory the voucher is not asked again, and what `into` holds is not said.
+    /// After running out of memory the voucher is not asked again, and what `into` holds is not said.
     fn vouch(
         &mut self,
         dir: &[u8],

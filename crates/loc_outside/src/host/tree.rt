@@ -112,7 +112,7 @@ fn kind_of(entry: &DirEntry) -> Result<Option<Kind>, Failed> {
     }
 }
 
-/// Moves the name of an entry into `into` and answers its kind, or None where the entry is to be passed over.
+/// Moves the name of an entry into `into` and answers its kind, or None where the entry is to be skipped.
 fn kept_entry(entry: &DirEntry, into: &mut PathBuf) -> Result<Option<Kind>, Failed>
     ensures { IfOk result (λ kept. IfSome kept (λ kind. IsTrue (is_name into.new))) }
 {
@@ -127,7 +127,7 @@ fn kept_entry(entry: &DirEntry, into: &mut PathBuf) -> Result<Option<Kind>, Fail
 }
 
 /// Moves the next name of a listing into `into` and answers its kind, or None after the last.
-/// Names that are not UTF-8 are passed over, and those that are gone by now.
+/// Names that are not UTF-8 are skipped, and so are those that are gone by now.
 fn next_entry(entries: &mut Entries, into: &mut PathBuf) -> Result<Option<Kind>, Failed>
     ensures { IfOk result (λ given. IfSome given (λ kind. IsTrue (is_name into.new))) }
 {
@@ -162,7 +162,7 @@ fn next_entry(entries: &mut Entries, into: &mut PathBuf) -> Result<Option<Kind>,
 /// `open_dir`: a directory that may not be listed, or may not be reached, is `Hidden`; any other that can't be reached is
 /// `Missing`. A link in the last place is followed, so `stat` is to be asked first.
 ///
-/// `next_name`: names come in the system's order. Names that are not UTF-8, and those that are gone by now, are passed over.
+/// `next_name`: names come in the system's order. Names that are not UTF-8, and those that are gone by now, are skipped.
 /// The kind of a name costs one system call; a name that is listed but may not be looked at is a `File`.
 ///
 /// Any other fault is `Failed`, also one that breaks off a listing: a part of the names is never taken for all.

@@ -16,7 +16,7 @@ use std::alloc::{AllocError, Global};
 use std::marker::Model;
 
 /// Files in memory, and the one that is being written. A contract sees what is stored and pending, and the calls that are
-/// to fail. A call of a trait fails where that was asked for, and for want of memory. Each write takes the whole piece.
+/// to fail. A call of a trait fails where that was asked for, and when out of memory. Each write takes the whole piece.
 #[derive(Drop)]
 pub struct MemOutput {
     alloc: Global,
@@ -108,7 +108,7 @@ impl Sink for MemOutput {
         ensures bytes { WriteAppends (Some self.old.held.pending) (Some self.new.held.pending) result piece.now }
         ensures cause { HasCause (fault_count self.old.failures) (fault_count self.new.failures) result }
         ensures kept { (self.new.held.stored ≡ self.old.held.stored) × (self.new.held.name ≡ self.old.held.name) × (min self.new.begins last_count ≡ min self.old.begins last_count) }
-        // It fails where that was asked for, else only for want of memory, and takes the whole piece.
+        // It fails where that was asked for, else only when out of memory, and takes the whole piece.
         ensures due { IsTrue (is_due self.old.failures) → IsErr result }
         ensures most { IfOk result (λ n. n ≡ length piece.now) }
         ensures ok { OnOk result (self.new.failures ≡ called self.old.failures) }
@@ -135,7 +135,7 @@ impl Output for MemOutput {
 
     fn begin(&mut self, name: &str) -> Result<(), Failed>
         ensures ok { OnOk result (self.new ≡ record { held = begun name.now self.old.held; begins = raised self.old.begins 1; failures = called self.old.failures }) }
-        // It fails where that was asked for, else only for want of memory.
+        // It fails where that was asked for, else only when out of memory.
         ensures due { IsTrue (is_due self.old.failures) → IsErr result }
         ensures err { OnErr result (self.new ≡ record self.old { failures = faulted (called self.old.failures) }) }
         ensures cause { HasCause (fault_count self.old.failures) (fault_count self.new.failures) result }
@@ -155,7 +155,7 @@ impl Output for MemOutput {
     fn commit(&mut self) -> Result<(), Failed>
         requires { IsSome self.old.held.name }
         ensures ok { OnOk result (self.new ≡ record self.old { held = committed self.old.held; failures = called self.old.failures }) }
-        // It fails where that was asked for, else only for want of memory.
+        // It fails where that was asked for, else only when out of memory.
         ensures due { IsTrue (is_due self.old.failures) → IsErr result }
         ensures err { OnErr result (self.new ≡ record self.old { failures = faulted (called self.old.failures) }) }
         ensures cause { HasCause (fault_count self.old.failures) (fault_count self.new.failures) result }

@@ -23,7 +23,7 @@ pub enum Opened {
     Missing,
 }
 
-/// Bytes to be read. What is left may be told or not: clauses on it hold where it is told.
+/// Bytes to be read. What is left may be known or not: clauses on it hold where it is known.
 pub trait Source {
     /// The bytes that are left, where the source tells them.
     ghost left: { Self → Option (List ℕ) };

@@ -5,8 +5,8 @@ ghost use Rattle.loc_outside.specs.Causes.{HasCause, raised};
 
 use crate::Failed;
 
-/// Tells which directories may be shown, and which paths exist. Its tests may be told or not: a clause on an answer
-/// holds where they are told. A path is a whole one.
+/// Tells which directories may be shown, and which paths exist. Its tests may be known or not: a clause on an answer
+/// holds where they are known. A path is a whole one.
 pub trait Gate {
     ghost use Rattle.loc_outside.specs.Gates.{Tests};
 

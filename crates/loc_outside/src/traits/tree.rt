@@ -23,8 +23,8 @@ pub enum Listing {
     Missing,
 }
 
-/// Directories by their paths, one of which may be open to be listed. What they hold may be told or not: clauses on it
-/// hold where it is told. A path is a whole one, without a final slash but for `/` itself.
+/// Directories by their paths, one of which may be open to be listed. What they hold may be known or not: clauses on it
+/// hold where it is known. A path is a whole one, without a final slash but for `/` itself.
 pub trait Tree {
     ghost use Rattle.loc_outside.specs.Trees.{Dirs, StatsAs, ListsAs, GivesFirst, opens_listing, goes_on};
 
