@@ -1,14 +1,15 @@
 -- The index of a mount table, row after row.
-use Rattle.std.proofs.Common.{◌≡◌, ◌≢◌, ℕ, ◌+◌, ◌<◌, List, [], ◌∷◌, ◌++◌, length, get_or, take, refl, sym, ◌∙◌, ap, append_assoc, subst, true, false, Some, None, Option, inl, inr, Vec}
+use Rattle.std.proofs.Common.{◌≡◌, ◌≢◌, ℕ, ◌+◌, ◌<◌, List, [], ◌∷◌, ◌++◌, length, get_or, set, take, Bool, refl, sym, ◌∙◌, ap, append_assoc, subst, true, false, Some, None, Option, inl, inr, Vec}
 use Rattle.std.proofs.lemmas.Bool.{cases_Bool, false_from_ne_true, or_from, or_parts, both_ways}
-use Rattle.std.proofs.lemmas.List.{take_more}
+use Rattle.std.proofs.lemmas.List.{take_more, get_or-set_same, get_or-set_other}
+use Rattle.std.proofs.lemmas.Option.{unwrap_or-slice_get}
 use Rattle.std.proofs.lemmas.Slice.Eq.{bytes_eq-Decides}
 use Rattle.std.specs.HashMap.{HashMap, UpdatesBy}
 use Rattle.std.specs.List.{list_any}
 use Rattle.std.specs.Map.{KeepsOthers}
 use Rattle.std.specs.Prelude.{bytes_eq}
 use Rattle.path_order.specs.Path.{is_normal}
-use Rattle.mount_table.specs.Index.{place_in, Indexes, IsIndex}
+use Rattle.mount_table.specs.Index.{place_in, Indexes, IsIndex, Marks, mark_place, is_marked}
 use Rattle.mount_table.specs.Lookup.{is_at}
 use Rattle.mount_table.specs.Row.{MountRow}
 
@@ -80,3 +81,24 @@ IsIndex-push rows row place m n key h len normal is updates = record {
 pub IsIndex-more : {Y S : Type 0} (rows : List MountRow) (place : ℕ) (row : MountRow) (m : HashMap (Vec ℕ Y) ℕ S) → place < length rows → row ≡ get_or rows place row → IsIndex (take place rows ++ row ∷ []) m → IsIndex (take (place + 1) rows) m
 IsIndex-more rows place row m within is h =
     subst (λ (l : List MountRow). IsIndex l m) (ap (λ (x : MountRow). take place rows ++ x ∷ []) is ∙ sym (take_more rows place row within)) h
+
+-- a path of another place of its mark than the one that is set
+set_other : (marks : List Bool) (place : ℕ) (path : List ℕ) → (mark_place path ≢ place) → is_marked (set marks place true) path ≡ is_marked marks path
+set_other marks place path other =
+    unwrap_or-slice_get (set marks place true) (mark_place path) false
+    ∙ get_or-set_other marks place (mark_place path) true false other
+    ∙ sym (unwrap_or-slice_get marks (mark_place path) false)
+
+set_here : (marks : List Bool) (place : ℕ) (path : List ℕ) → place < length marks → mark_place path ≡ place → is_marked (set marks place true) path ≡ true
+set_here marks place path within is =
+    unwrap_or-slice_get (set marks place true) (mark_place path) false
+    ∙ ap (λ (k : ℕ). get_or (set marks place true) k false) is
+    ∙ get_or-set_same marks place true false within
+
+-- the rows so far, and one more whose mark is set
+pub Marks-more : (rows : List MountRow) (count : ℕ) (row : MountRow) (marks : List Bool) (place : ℕ) → count < length rows → row ≡ get_or rows count row → place ≡ mark_place row.point → place < length marks → Marks (take count rows) marks → Marks (take (count + 1) rows) (set marks place true)
+Marks-more rows count row marks place within is here room h = λ path unmarked.
+    let apart : mark_place path ≢ place = λ e. both_ways _ unmarked (set_here marks place path room e) in
+    let other : is_at path row ≡ false = false_from_ne_true _ (λ t. apart (ap mark_place (sym ((bytes_eq-Decides row.point path).0 t)) ∙ sym here)) in
+    ap (λ (l : List MountRow). list_any (is_at path) l) (take_more rows count row within ∙ ap (λ (x : MountRow). take count rows ++ x ∷ []) (sym is))
+    ∙ none_more (take count rows) row path (h path (sym (set_other marks place path apart) ∙ unmarked)) other

@@ -1,7 +1,8 @@
 -- The index of a mount table by mount points.
-use Rattle.std.specs.Prelude.{◌≡◌, ℕ, true, false, List, ◌∷◌, ◌++◌, length, bytes_eq, MatchOption, Option, Vec}
+use Rattle.std.specs.Prelude.{◌≡◌, ℕ, ◌+◌, ◌*◌, ◌-◌, ◌%◌, Bool, true, false, List, ◌∷◌, ◌++◌, length, bytes_eq, MatchOption, Option, Vec, slice_get, slice_index}
 use Rattle.std.specs.HashMap.{HashMap, get_by}
 use Rattle.std.specs.List.{list_any}
+use Rattle.std.specs.Option.{unwrap_or}
 use Rattle.path_order.specs.Path.{is_normal}
 use Rattle.mount_table.specs.Lookup.{is_at}
 use Rattle.mount_table.specs.Row.{MountRow}
@@ -28,3 +29,15 @@ Indexes rows path place =
 -- it does so at each path
 pub record IsIndex {Y S : Type 0} (rows : List MountRow) (index : HashMap (Vec ℕ Y) ℕ S) : Type 0 where
   pub at_each : (path : List ℕ) → Indexes rows path (place_in index path)
+
+-- the place of a path's mark, by its length and its last byte
+unfoldable pub mark_place : List ℕ → ℕ
+mark_place path = length path % 64 * 4 + slice_index path (length path - 1) % 4
+
+-- whether a path has a mark
+abbrev pub is_marked : List Bool → List ℕ → Bool
+is_marked marks path = unwrap_or (slice_get marks (mark_place path)) false
+
+-- no row is at a path without a mark
+abbrev pub Marks : List MountRow → List Bool → Type 0
+Marks rows marks = (path : List ℕ) → is_marked marks path ≡ false → list_any (is_at path) rows ≡ false

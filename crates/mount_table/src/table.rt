@@ -1,9 +1,9 @@
 //! A mount table, and what it tells of a path.
-ghost use Rattle.std.specs.Prelude.{◌≡◌, ◌↔◌, [], IsTrue, IsNone, IfOk, All, false};
+ghost use Rattle.std.specs.Prelude.{◌≡◌, ◌↔◌, ◌<◌, [], IsTrue, IsNone, IfOk, All, false};
 ghost use Rattle.std.specs.List.{list_any};
 ghost use Rattle.std.specs.Option.{option_copied};
 ghost use Rattle.path_order.specs.Path.{is_normal as normal};
-ghost use Rattle.mount_table.specs.Index.{IsIndex, Indexes};
+ghost use Rattle.mount_table.specs.Index.{IsIndex, Indexes, Marks, mark_place as place_of_mark, is_marked as marked};
 ghost use Rattle.mount_table.specs.Lookup.{covers, deciding, type_of, device_of, shows_elsewhere, is_bind};
 
 use crate::prefix::shorter_prefix;
@@ -18,18 +18,19 @@ use std::marker::Model;
 pub struct Mounts {
     rows: Vec<Row>,
     index: HashMap<Vec<u8>, usize>,
+    marks: Vec<bool>,
 }
 
 impl Model for Mounts {
     ghost use Rattle.std.specs.Prelude.{List};
     ghost use Rattle.mount_table.specs.Row.{MountRow};
-    ghost use Rattle.mount_table.specs.Index.{IsIndex};
+    ghost use Rattle.mount_table.specs.Index.{IsIndex, Marks};
 
     ghost Value = { List MountRow };
 
     ghost view = { λ m. m.rows.items };
 
-    ghost invariant = { λ m. IsIndex m.rows.items m.index };
+    ghost invariant = { λ m. IsIndex m.rows.items m.index × Marks m.rows.items m.marks.items };
 }
 
 /// The places of the last rows at each normal mount point.
@@ -44,6 +45,36 @@ fn index_rows(alloc: Global, rows: &[Row]) -> Result<HashMap<Vec<u8>, usize>, Al
         }
     }
     Ok(index)
+}
+
+/// The place of a path's mark among 256, by its length and its last byte.
+#[tactic(auto, unfolding(crate::specs::Index::mark_place))]
+fn mark_place(path: &[u8]) -> usize
+    ensures value { result ≡ place_of_mark path.now }
+    ensures within { result < 256 }
+{
+    if path.is_empty() {
+        return 0;
+    }
+    path.len() % 64 * 4 + usize::from(path[path.len() - 1]) % 4
+}
+
+/// Marks the mount points of the rows, so that few other paths have a mark.
+fn mark_rows(alloc: Global, rows: &[Row]) -> Result<Vec<bool>, AllocError>
+    ensures { IfOk result (λ marks. Marks rows.now marks.items) }
+{
+    let mut marks = vec![in alloc; false; 256]?;
+    for row in rows {
+        marks[mark_place(row.point())] = true;
+    }
+    Ok(marks)
+}
+
+/// Whether a path has a mark.
+fn is_marked(marks: &[bool], path: &[u8]) -> bool
+    ensures { result ≡ marked marks.now path.now }
+{
+    marks.get(mark_place(path)).copied().unwrap_or(false)
 }
 
 /// Whether an earlier row shows, at another path than this, what the row shows there.
@@ -61,6 +92,7 @@ impl Mounts {
         Mounts {
             rows: Vec::new(alloc),
             index: HashMap::new(alloc),
+            marks: Vec::new(alloc),
         }
     }
 
@@ -69,13 +101,17 @@ impl Mounts {
         ensures { IfOk result (λ mounts. mounts ≡ rows.items) }
     {
         let index = index_rows(alloc, &rows)?;
-        Ok(Mounts { rows, index })
+        let marks = mark_rows(alloc, &rows)?;
+        Ok(Mounts { rows, index, marks })
     }
 
-    /// The place of the last row at a normal path.
+    /// The place of the last row at a normal path. Most paths without one have no mark and are not looked up.
     fn place_at(&self, path: &[u8]) -> Option<usize>
         ensures { Indexes self.now path.now result }
     {
+        if !is_marked(&self.marks, path) {
+            return None;
+        }
         self.index.get(path).copied()
     }
 

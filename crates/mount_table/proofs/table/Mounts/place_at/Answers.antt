@@ -7,4 +7,4 @@ pub returns : goal.returns
 returns c =
     let path = c.args.path.now in
     subst (λ (o : Option ℕ). Indexes c.args.self.now path o) (sym (c.copied.ensures ∙ c.get.ensures.value))
-    (subst (λ (rows : List MountRow). Indexes rows path (place_in c.self.inside.index path)) c.self.view_is (c.self.invariant.at_each path))
+    (subst (λ (rows : List MountRow). Indexes rows path (place_in c.self.inside.index path)) c.self.view_is (c.self.invariant.0.at_each path))
