@@ -1,5 +1,5 @@
 -- Bytes that stand in a text but for the case of ASCII letters, and the items that match such texts.
-use Rattle.std.proofs.Common.{◌≡◌, ℕ, zero, suc, ◌+◌, ◌-◌, ◌<◌, ◌≤◌, ◌⊎◌, Bool, true, false, ◌||◌, ◌==◌, List, [], ◌∷◌, ◌++◌, length, take, drop, map, get_or, Contains, Option, None, IsTrue, inl, inr, ⊎_elim, refl, sym, ap, subst, ◌∙◌, arith, below_more, length-take, length-drop, take-append-drop, append-nil}
+use Rattle.std.proofs.Common.{◌≡◌, ℕ, suc, ◌+◌, ◌-◌, ◌<◌, ◌≤◌, ◌⊎◌, Bool, true, ◌==◌, List, [], ◌∷◌, ◌++◌, length, take, drop, map, get_or, Option, None, IsTrue, inl, inr, ⊎_elim, refl, sym, ap, subst, ◌∙◌, arith, below_more, length-take, length-drop, take-append-drop, append-nil}
 use Rattle.std.specs.Char.{to_ascii_lowercase, to_ascii_uppercase}
 use Rattle.std.proofs.lemmas.Bool.{cases_lt, eqb-true, eq-eqb, or_cases, or_left, or_right}
 use Rattle.std.proofs.lemmas.List.{length-map, get_or-drop, get_or-take}
@@ -21,11 +21,11 @@ capital a b from under same =
     ⊎_elim
     (λ l. absurd (omega (arith, same, b_is, (lowercase_is a).1 l)))
     (λ l. ⊎_elim
-      (λ m. (uppercase_is a).1 (omega arith) ∙ omega (arith, same, b_is, (lowercase_is a).0 (l, omega arith)))
-      (λ m.
-          let a_is = (lowercase_is a).2 (omega arith) in
-          omega (arith, same, b_is, a_is, (uppercase_is a).0 (omega (arith, same, b_is, a_is), omega (arith, same, b_is, a_is))))
-      (cases_lt a 91))
+    (λ m. (uppercase_is a).1 (omega arith) ∙ omega (arith, same, b_is, (lowercase_is a).0 (l, omega arith)))
+    (λ m.
+    let a_is = (lowercase_is a).2 (omega arith) in
+    omega (arith, same, b_is, a_is, (uppercase_is a).0 (omega (arith, same, b_is, a_is), omega (arith, same, b_is, a_is))))
+    (cases_lt a 91))
     (cases_lt a 65)
 
 -- a byte that is another but for case is that in one of its cases
@@ -33,9 +33,9 @@ either_case : (a b : ℕ) → to_ascii_lowercase a ≡ to_ascii_lowercase b → 
 either_case a b same = ⊎_elim
     (λ l. inl (same ∙ (lowercase_is b).1 l))
     (λ l. ⊎_elim
-      (λ m. inr (capital a b l m same))
-      (λ m. inl (same ∙ (lowercase_is b).2 (omega arith)))
-      (cases_lt b 91))
+    (λ m. inr (capital a b l m same))
+    (λ m. inl (same ∙ (lowercase_is b).2 (omega arith)))
+    (cases_lt b 91))
     (cases_lt b 65)
 
 pub folded_from : (a b : ℕ) → to_ascii_lowercase a ≡ to_ascii_lowercase b → folded true (λ x. x == b) a ≡ true
@@ -119,9 +119,9 @@ module _ (bytes text : List ℕ) where
   skipped rare small big at past n within small_is big_is to none passed place below h = ⊎_elim
       (λ l. passed place l h)
       (λ l.
-          let reads : get_or (take (rare + past - (rare + at)) (drop (rare + at) text)) (place - at) 0 ≡ get_or text (place + rare) 0 =
-          get_or-take (rare + past - (rare + at)) (drop (rare + at) text) (place - at) 0 (omega arith) ∙ get_or-drop (rare + at) text (place - at) 0 ∙ ap (λ k. get_or text k 0) (omega arith) in
-          none (place - at) (omega arith) (omega arith) (subst (λ x. is_byte2 small big x ≡ true) (sym reads) (rare_stands rare small big place within small_is big_is h)))
+      let reads : get_or (take (rare + past - (rare + at)) (drop (rare + at) text)) (place - at) 0 ≡ get_or text (place + rare) 0 =
+      get_or-take (rare + past - (rare + at)) (drop (rare + at) text) (place - at) 0 (omega arith) ∙ get_or-drop (rare + at) text (place - at) 0 ∙ ap (λ k. get_or text k 0) (omega arith) in
+      none (place - at) (omega arith) (omega arith) (subst (λ x. is_byte2 small big x ≡ true) (sym reads) (rare_stands rare small big place within small_is big_is h)))
       (cases_lt place at)
 
   searched_len : (rare at past : ℕ) → rare < length bytes → length bytes ≤ length text → past ≡ length text - length bytes + 1 → length (take (rare + past - (rare + at)) (drop (rare + at) text)) ≡ past - at

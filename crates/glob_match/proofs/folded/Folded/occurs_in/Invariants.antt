@@ -1,4 +1,4 @@
-use Rattle.std.proofs.Common.{ℕ, ◌+◌, ◌-◌, ◌<◌, ◌≤◌, List, length}
+use Rattle.std.proofs.Common.{ℕ, ◌-◌, ◌<◌, ◌≤◌, List}
 use Rattle.glob_match.specs.Folded.{StandsFolded}
 use Rattle.glob_match.proofs.folded.Folded.occurs_in.Given as goal
 
