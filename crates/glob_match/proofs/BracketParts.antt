@@ -1,10 +1,10 @@
 -- Reading the parts of a bracket expression one after another.
-use Rattle.std.proofs.Common.{◌≡◌, ℕ, zero, suc, ◌+◌, ◌-◌, ◌<◌, Bool, true, false, cond, ◌||◌, List, [], ◌∷◌, length, take, drop, get_or, Option, Some, None, option_map, IsSomeAnd, refl, sym, ap, ◌∙◌, arith, add-one, not, length-drop}
+use Rattle.std.proofs.Common.{◌≡◌, ℕ, zero, suc, ◌+◌, ◌-◌, ◌<◌, Bool, true, false, cond, ◌||◌, List, [], ◌∷◌, length, take, drop, get_or, Option, Some, None, option_map, IsSomeAnd, refl, sym, ap, ◌∙◌, arith, add-one, length-drop}
 use Rattle.std.proofs.Math.Seq.{drop-cons, take_all}
 use Rattle.std.proofs.lemmas.List.{drop-drop}
 use Rattle.std.proofs.lemmas.Bool.{ne_eqb}
 use Rattle.byte_class.specs.declared.byte_set.ByteSet.{ByteSet}
-use Rattle.byte_class.specs.ByteSet.{has, members, folded, in_set}
+use Rattle.byte_class.specs.ByteSet.{has, members, in_set}
 use Rattle.byte_class.specs.Part.{Part, has_part, has_parts}
 use Rattle.glob_match.specs.Bracket.{part_at, after_part, parts, parts_first, is_complement, bracket}
 use Rattle.glob_match.specs.Item.{Item, OneOf}

@@ -1,5 +1,5 @@
 -- The steps of the walk, and why it ends.
-use Rattle.std.proofs.Common.{◌≡◌, ℕ, ◌+◌, ◌-◌, ◌*◌, ◌<◌, ◌≤◌, sym, subst, arith}
+use Rattle.std.proofs.Common.{◌≡◌, ℕ, ◌+◌, ◌-◌, ◌*◌, ◌<◌, ◌≤◌, subst, arith}
 use Rattle.std.proofs.Math.Nat.{mul-le-mul_right}
 
 -- what is left to be done: fewer places to go back to, or fewer items

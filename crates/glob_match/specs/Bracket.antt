@@ -1,5 +1,5 @@
 -- Bracket expressions: what stands in them, and where they end.
-use Rattle.std.specs.Prelude.{ℕ, zero, suc, ◌+◌, ◌-◌, Bool, not, ◌||◌, ◌&&◌, ◌==◌, nat_eq, List, [], ◌∷◌, take, drop, slice_index, Option, Some, None, option_map, is_none, codes, if◌then◌else◌}
+use Rattle.std.specs.Prelude.{ℕ, zero, suc, ◌+◌, ◌-◌, Bool, not, ◌||◌, ◌&&◌, ◌==◌, List, [], ◌∷◌, take, drop, slice_index, Option, Some, None, option_map, is_none, if◌then◌else◌}
 use Rattle.byte_class.specs.ByteSet.{in_set, members}
 use Rattle.byte_class.specs.Class.{class_at}
 use Rattle.byte_class.specs.Part.{Part, Named, Range, has_parts}

@@ -1,4 +1,5 @@
 pub mod Bracket
+pub mod Folded
 pub mod Item
 pub mod Language
 pub mod Pattern

@@ -3,6 +3,7 @@ ghost use Rattle.std.specs.Prelude.{◌≡◌, ◌+◌, ◌*◌, ◌≤◌, ◌�
 ghost use Rattle.std.specs.Option.{option_copied};
 ghost use Rattle.glob_match.specs.Pattern.{wanted, items_of, plain_of, InGlob};
 
+use crate::folded::Folded;
 use crate::items::Items;
 use crate::matching::matches_items;
 use crate::reading::{is_plain, read_items, read_plain};
@@ -22,17 +23,21 @@ use std::sync::ledger::Ledger;
 pub struct Glob {
     items: Items,
     finder: Option<Finder<'static>>,
+    folded: Option<Folded>,
 }
 
 impl Model for Glob {
-    ghost use Rattle.std.specs.Prelude.{◌≡◌, [], IfSome};
-    ghost use Rattle.glob_match.specs.Pattern.{Wanted, wanted_of};
+    ghost use Rattle.std.specs.Prelude.{◌≡◌, [], ◌∷◌, ◌++◌, map, true, IfSome};
+    ghost use Rattle.glob_match.specs.Item.{Star};
+    ghost use Rattle.glob_match.specs.Pattern.{Wanted, literal, wanted_of};
 
     ghost Value = { Wanted };
 
     ghost view = { λ g. wanted_of g.finder g.items };
 
-    ghost invariant = { λ g. IfSome g.finder (λ _. g.items ≡ []) };
+    ghost invariant = { λ g.
+        IfSome g.finder (λ _. g.items ≡ [])
+        × IfSome g.folded (λ bytes. g.items ≡ (Star ∷ map (literal true) bytes) ++ Star ∷ []) };
 }
 
 impl Glob {
@@ -47,19 +52,23 @@ impl Glob {
             return Ok(Glob {
                 items,
                 finder: None,
+                folded: None,
             });
         }
         if fold {
             let items = read_plain(alloc, pattern)?;
+            let folded = Folded::new(alloc, pattern)?;
             return Ok(Glob {
                 items,
                 finder: None,
+                folded: Some(folded),
             });
         }
         let finder = Finder::new(pattern).into_owned(alloc)?;
         Ok(Glob {
             items: Items::new(alloc),
             finder: Some(finder),
+            folded: None,
         })
     }
 
@@ -73,7 +82,10 @@ impl Glob {
     {
         match &self.finder {
             Some(finder) => finder.find(text).is_some(),
-            None => matches_items(&self.items, text, steps),
+            None => match &self.folded {
+                Some(folded) => folded.occurs_in(text),
+                None => matches_items(&self.items, text, steps),
+            },
         }
     }
 

@@ -2,6 +2,7 @@
 #![tactic(auto)]
 
 mod bracket;
+mod folded;
 pub mod glob;
 pub mod items;
 mod matching;

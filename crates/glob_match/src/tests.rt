@@ -203,6 +203,45 @@ fn matches_stars(rt: HostRuntime) -> Result<(), Fail> {
     Ok(())
 }
 
+// Plain patterns in either case.
+const FOLDED: &str = r"ny lib LIB/x
+ny LIB /usr/lib/x
+ny pNg /a.PnG
+yy lib /LIB/lib
+ny LiB liB
+ny axb x/xaxaxB
+ny zebra z/zEz/zEBrA
+nn zebra z/zebr
+ny oo /fOo
+nn oo /oxo
+ny abc ABC
+nn abcd abc
+nn abcd bcda
+ny a@ A@
+nn @ `
+nn ` @
+yy { {
+nn { [
+nn ^ ~
+nn | \
+ny x1-y_z X1-Y_Z
+nn 0 P
+nn / O";
+
+#[test]
+fn matches_folded(rt: HostRuntime) -> Result<(), Fail> {
+    let wrong = first_wrong(rt.alloc(), FOLDED)?;
+    assert!(rt; wrong.is_none(), "{wrong:?}");
+    Ok(())
+}
+
+#[test]
+fn folds_no_high_byte(rt: HostRuntime) -> Result<(), Fail> {
+    assert!(rt; !answer(rt.alloc(), b"\xE4", b"\xC4", true)?);
+    assert!(rt; answer(rt.alloc(), b"\xE4A", b"\xE4a", true)?);
+    Ok(())
+}
+
 // Whether a pattern matches one text and not another.
 fn tells_apart(alloc: Global, pattern: &[u8], yes: &[u8], no: &[u8]) -> Result<bool, AllocError> {
     Ok(answer(alloc, pattern, yes, false)? && !answer(alloc, pattern, no, false)?)

@@ -1,4 +1,4 @@
-use Rattle.std.proofs.Common.{◌≤◌, ◌<◌, ◌+◌, ◌*◌, length, drop, refl, arith}
+use Rattle.std.proofs.Common.{◌≤◌, ◌<◌, ◌+◌, length, drop, refl, arith}
 use Rattle.std.proofs.lemmas.Bool.{false≢true}
 use Rattle.glob_match.specs.Language.{Matches}
 use Rattle.glob_match.proofs.Walk.{Walks-found, Walks-star, Walks-taken, Walks-restart, Walks-from, Walks-fails, Walks-ended, fails_past, fails_untaken, matches_last_star}
