@@ -6,8 +6,8 @@ use memchr::{memchr, memchr2};
 use std::alloc::{AllocError, Global};
 use std::marker::Model;
 
-/// The bytes of paths that are common, the commonest first, as counted in one file system.
-const COMMON: &[u8] = b"/etosnralicudpm.h_-gyb1vfkx2w03648579zjq";
+/// The bytes that are common in paths, the commonest first, as counted over 400,000 paths of a Linux system.
+const COMMON: &[u8] = b"/otsneralciu.ph_-ymdg1b6x3vkf842w705zj9q";
 
 /// Bytes, and the place among them of the one that is looked for first.
 #[derive(Drop)]
@@ -71,7 +71,8 @@ fn rarity(byte: u8) -> usize {
     memchr(byte.to_ascii_lowercase(), COMMON).unwrap_or(COMMON.len())
 }
 
-/// A place of the bytes, where they have one. The rarest of them is found in the fewest places.
+/// The place of the rarest byte. Any place would be right, but at a rare byte the bytes are seldom compared in
+/// vain.
 fn rarest(bytes: &[u8]) -> usize
     ensures { 0 < length bytes.now → result < length bytes.now }
 {
