@@ -1,9 +1,8 @@
 -- What a table of sets tells of a text.
-use Rattle.std.proofs.Common.{◌≡◌, ◌⊎◌, ◌↔◌, ℕ, zero, suc, ◌+◌, ◌<◌, ◌≤◌, ◌*◌, ◌%◌, ◌^◌, ◌==◌, ◌||◌, w64, Bool, true, false, List, [], ◌∷◌, length, slice_get, slice_index, Contains, Option, Some, None, MatchOption, refl, sym, ap, ◌∙◌, subst, inl, inr, ⊎_elim, arith}
-use Rattle.std.specs.Prelude.{⊤}
+use Rattle.std.proofs.Common.{◌≡◌, ◌⊎◌, ◌↔◌, ℕ, zero, suc, ◌+◌, ◌<◌, ◌≤◌, ◌*◌, ◌%◌, ◌^◌, ◌==◌, ◌||◌, w64, Bool, true, false, not, List, [], ◌∷◌, length, slice_get, slice_index, Contains, Option, Some, None, refl, sym, ap, ◌∙◌, subst, inl, inr, ⊎_elim, arith}
+use Rattle.std.specs.Prelude.{⊤, is_some}
 use Rattle.std.specs.Int.Bits.{bit_or}
 use Rattle.std.proofs.lemmas.Bool.{false≢true, eq-eqb, ne_eqb, eqb-true, cases_lt, cases_eq, or_right}
-use Rattle.std.proofs.Math.Option.{some-injective}
 use Rattle.std.proofs.lemmas.Option.{slice_get_within}
 use Rattle.std.proofs.lemmas.Nat.Bits.{bit_at-zero, bit_at_set_same, bit_at_set_other}
 use Rattle.byte_class.specs.ByteSet.{members}
@@ -115,11 +114,13 @@ pub follows_alike : (items : List Item) (first : Bool) (byte : ℕ) (text : List
 follows_alike items first byte text at set next within is kind h = λ other to inside same also.
     stepped_alike items text at other to (inner_alike first byte text at other to (within, is, kind) (inside, same, also)) (inner_alike first byte other to text at (inside, same, also) (within, is, kind)) set next h
 
-closes_of : (items : List Item) (text : List ℕ) (set : ℕ) (next : Option ℕ) → Stepped items text (length text) set next → (end : Bool) → MatchOption next (end ≡ true) (λ n. end ≡ false) → Closes items text set end
-closes_of items text set None h end is = rw is h
-closes_of items text set (Some next) h end is = rw is (next, h)
+closes_of : (items : List Item) (text : List ℕ) (set : ℕ) (next : Option ℕ) → Stepped items text (length text) set next → (end : Bool) → is_some next ≡ not end → Closes items text set end
+closes_of items text set None h true is = h
+closes_of items text set None h false is = absurd (false≢true is)
+closes_of items text set (Some next) h true is = absurd (false≢true (sym is))
+closes_of items text set (Some next) h false is = (next, h)
 
-pub ends_alike : (items : List Item) (first : Bool) (text : List ℕ) (set : ℕ) (next : Option ℕ) (end : Bool) → ((first ≡ true) ↔ (length text ≡ 0)) → Stepped items text (length text) set next → MatchOption next (end ≡ true) (λ n. end ≡ false) → Ends items first set end
+pub ends_alike : (items : List Item) (first : Bool) (text : List ℕ) (set : ℕ) (next : Option ℕ) (end : Bool) → ((first ≡ true) ↔ (length text ≡ 0)) → Stepped items text (length text) set next → is_some next ≡ not end → Ends items first set end
 ends_alike items first text set next end kind h is = λ other also.
     closes_of items other set next (stepped_alike items text (length text) other (length other) (last_alike first text other kind also) (last_alike first other text also kind) set next h) end is
 
@@ -163,11 +164,16 @@ pub closes_says : (items : List Item) (text : List ℕ) (set : ℕ) (end : Bool)
 closes_says items text set true w h = (λ t. stepped_end items text (length text) set w (omega arith) h, λ e. refl)
 closes_says items text set false w h = (λ t. absurd (false≢true t), λ e. absurd (stepped_done items text (length text) set w (omega arith) h.0 (omega arith) h.1 e))
 
+number_in : Option ℕ → ℕ
+number_in None = 0
+number_in (Some x) = x
+
 -- before the search by a table looks at a place, it stands at a set that has the states there
 pub record Stands (items : List Item) (rows : List Row) (text : List ℕ) (number at : ℕ) : Type 0 where
   pub sets : List ℕ
   pub enough : length sets ≤ length rows
   pub made : AreRows items sets rows
+  pub low : number < 256
   pub set : ℕ
   pub is : slice_get sets number ≡ Some set
   pub kind : ((number == 0) ≡ true) ↔ (at ≡ 0)
@@ -188,6 +194,7 @@ stands_first items rows text t = record {
   sets = t.0;
   enough = t.1;
   made = t.3;
+  low = omega arith;
   set = 0;
   is = t.2;
   kind = (λ e. refl, λ e. refl);
@@ -199,8 +206,8 @@ module _ (items : List Item) (rows : List Row) (text : List ℕ) (number at : �
   stands_inside = omega (arith, s.enough, slice_get_within s.sets number s.set s.is)
 
   module _ (row : Row) (here : slice_get rows number ≡ Some row) where
-    row_is : IsRow items s.sets number s.set row
-    row_is = let m = s.made number row here in subst (λ x. IsRow items s.sets number x row) (some-injective m.0 s.set (sym m.1 ∙ s.is)) m.2
+    pub row_is : IsRow items s.sets number s.set row
+    row_is = let m = s.made number row here in subst (λ x. IsRow items s.sets number x row) (ap number_in (sym m.1 ∙ s.is)) m.2
 
     module _ (within : at < length text) (fits : slice_index text at < 256) where
       entry_is : Entry items s.sets (number == 0) (slice_index text at) s.set (slice_index row.next (slice_index text at))
@@ -219,6 +226,7 @@ module _ (items : List Item) (rows : List Row) (text : List ℕ) (number at : �
           sets = s.sets;
           enough = s.enough;
           made = s.made;
+          low = omega (arith, h.1);
           set = h.2.0;
           is = h.2.1;
           kind = (λ e. absurd (omega (arith, h.0, eqb-true (slice_index row.next (slice_index text at)) 0 e)), λ e. absurd (omega (arith, e)));

@@ -37,6 +37,20 @@ fn with_state(set: u64, state: usize) -> u64
     set | 1 << state
 }
 
+/// Inserts a state, if it is in the set.
+fn insert_one(set: u64, state: usize, now: &mut StateSet)
+    requires { state < 64 }
+    ensures width { now.new.width ≡ now.old.width }
+    ensures kept { (s : ℕ) → Contains now.old.order s → Contains now.new.order s }
+    ensures has { state < now.old.width → IsTrue (has_state set state) → Contains now.new.order state }
+    ensures only { (s : ℕ) → Contains now.new.order s → Contains now.old.order s ⊎ ((s ≡ state) × IsTrue (has_state set state)) }
+{
+    if !has_state(set, state) {
+        return;
+    }
+    now.insert(state);
+}
+
 /// Inserts the states of a set that are below a number.
 fn insert_all(set: u64, below: usize, now: &mut StateSet)
     requires bits { below ≤ 64 }
@@ -44,12 +58,10 @@ fn insert_all(set: u64, below: usize, now: &mut StateSet)
     ensures width { now.new.width ≡ now.old.width }
     ensures kept { (s : ℕ) → Contains now.old.order s → Contains now.new.order s }
     ensures has { (s : ℕ) → s < below → IsTrue (has_state set s) → Contains now.new.order s }
-    ensures only { (s : ℕ) → Contains now.new.order s → Contains now.old.order s ⊎ IsTrue (has_state set s) }
+    ensures only { (s : ℕ) → Contains now.new.order s → Contains now.old.order s ⊎ ((s < below) × IsTrue (has_state set s)) }
 {
     for state in 0..below {
-        if has_state(set, state) {
-            now.insert(state);
-        }
+        insert_one(set, state, now);
     }
 }
 
