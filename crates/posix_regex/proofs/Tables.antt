@@ -1,5 +1,5 @@
 -- What a table of sets tells of a text.
-use Rattle.std.proofs.Common.{◌≡◌, ◌⊎◌, ◌↔◌, ℕ, zero, suc, ◌+◌, ◌<◌, ◌≤◌, ◌*◌, ◌%◌, ◌^◌, ◌==◌, ◌||◌, w64, Bool, true, false, not, List, [], ◌∷◌, length, slice_get, slice_index, Contains, Option, Some, None, refl, sym, ap, ◌∙◌, subst, inl, inr, ⊎_elim, arith}
+use Rattle.std.proofs.Common.{◌≡◌, ◌⊎◌, ◌↔◌, ℕ, zero, suc, ◌+◌, ◌<◌, ◌≤◌, ◌*◌, ◌%◌, ◌^◌, ◌==◌, ◌||◌, w64, Bool, true, false, not, List, [], ◌∷◌, ◌++◌, length, slice_get, slice_index, Contains, Option, Some, None, refl, sym, ap, ◌∙◌, subst, inl, inr, ⊎_elim, arith}
 use Rattle.std.specs.Prelude.{⊤, is_some}
 use Rattle.std.specs.Int.Bits.{bit_or}
 use Rattle.std.proofs.lemmas.Bool.{false≢true, eq-eqb, ne_eqb, eqb-true, cases_lt, cases_eq, or_right}
@@ -135,6 +135,22 @@ made_grown items old new number row grown h = (h.0, grown number h.0 h.1, record
   ends = h.2.ends;
 })
 
+abbrev row_in : Row → Option Row → Row
+row_in other None = other
+row_in other (Some row) = row
+
+last_or : (rows : List Row) (row r : Row) (i : ℕ) → slice_get (rows ++ row ∷ []) i ≡ Some r → (slice_get rows i ≡ Some r) ⊎ ((i ≡ length rows) × (row ≡ r))
+last_or [] row r zero is = inr (refl, ap (row_in row) is)
+last_or [] row r (suc i) is = absurd (omega (arith, slice_get_within {A = Row} [] i r is))
+last_or (x ∷ rows) row r zero is = inl is
+last_or (x ∷ rows) row r (suc i) is = ⊎_elim (λ a. inl a) (λ b. inr (ap suc b.0, b.1)) (last_or rows row r i is)
+
+pub rows_more : (items : List Item) (old new : List ℕ) (rows : List Row) (row : Row) → Grown old new → AreRows items old rows → IsMade items new (length rows) row → AreRows items new (rows ++ row ∷ [])
+rows_more items old new rows row grown made more i r is = ⊎_elim
+    (λ before. made_grown items old new i r grown (made i r before))
+    (λ last. subst (λ k. IsMade items new k r) (sym last.0) (subst (λ x. IsMade items new (length rows) x) last.1 more))
+    (last_or rows row r i is)
+
 abbrev pub Always : ℕ → Type 0
 Always at = ⊤
 
@@ -164,7 +180,7 @@ pub closes_says : (items : List Item) (text : List ℕ) (set : ℕ) (end : Bool)
 closes_says items text set true w h = (λ t. stepped_end items text (length text) set w (omega arith) h, λ e. refl)
 closes_says items text set false w h = (λ t. absurd (false≢true t), λ e. absurd (stepped_done items text (length text) set w (omega arith) h.0 (omega arith) h.1 e))
 
-number_in : Option ℕ → ℕ
+abbrev number_in : Option ℕ → ℕ
 number_in None = 0
 number_in (Some x) = x
 

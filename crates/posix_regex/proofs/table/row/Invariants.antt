@@ -9,5 +9,6 @@ invariant-loop-byte g l = record {
   grown : Grown l.initial.sets.items l.sets.items;
   few : length l.sets.items ≤ 128;
   longer : length l.initial.sets.items ≤ length l.sets.items;
+  len : length l.entries ≡ 256;
   entries : (b : ℕ) → b < l.byte → Entry l.states l.sets.items (l.number == 0) b l.set (slice_index l.entries b);
 }

@@ -32,7 +32,7 @@ returns-then-entry-clause-value g c =
     let st = c.loop-at.invariant.stands in
     let row : Row = get_or rows number (record { next = []; end = false }) in
     let here : slice_get rows number ≡ Some row = slice_get-get_or rows number (record { next = []; end = false }) (stands_inside c.args.states.now rows c.args.text.now number at st) in (
-      λ t. stands_found c.args.states.now rows c.args.text.now number at st row here c.loop-at-test.true (omega (arith, c.type_inv.text at c.loop-at-test.true)) c.if-entry.true,
+      λ t. stands_found c.args.states.now rows c.args.text.now number at st row here c.loop-at-test.true (omega (arith, c.type_inv.text)) c.if-entry.true,
       λ h. refl,
     )
 
@@ -45,7 +45,7 @@ loop-at-preserved g c =
     let row : Row = get_or rows number (record { next = []; end = false }) in
     let here : slice_get rows number ≡ Some row = slice_get-get_or rows number (record { next = []; end = false }) (stands_inside c.args.states.now rows c.args.text.now number at st) in
     record {
-      stands = stands_next c.args.states.now rows c.args.text.now number at st row here c.loop-at-test.true (omega (arith, c.type_inv.text at c.loop-at-test.true)) c.if-entry.false;
+      stands = stands_next c.args.states.now rows c.args.text.now number at st row here c.loop-at-test.true (omega (arith, c.type_inv.text)) c.if-entry.false;
       rising = omega (arith, c.loop-at.invariant.rising, c.tick.ensures);
       bound = omega (arith, c.loop-at.invariant.bound, c.tick.ensures);
     }
