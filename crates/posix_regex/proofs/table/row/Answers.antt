@@ -1,6 +1,6 @@
-use Rattle.std.proofs.Common.{◌≡◌, ◌≢◌, ℕ, ◌<◌, ◌≤◌, ◌==◌, length, get_or, set, slice_get, Some, IfSome, ap, sym, ◌∙◌, subst, ⊎_elim, arith, length-set, get_or-set_other, get_or-set_same}
+use Rattle.std.proofs.Common.{◌≡◌, ◌≢◌, ℕ, ◌<◌, ◌≤◌, ◌==◌, length, get_or, set, slice_get, Some, IfSome, refl, sym, ◌∙◌, subst, ⊎_elim, arith, length-set, get_or-set_other, get_or-set_same}
 use Rattle.std.proofs.lemmas.Bool.{cases_lt}
-use Rattle.std.proofs.lemmas.Option.{slice_get-get_or}
+use Rattle.std.proofs.lemmas.Option.{slice_get_read}
 use Rattle.posix_regex.specs.Table.{Entry}
 use Rattle.posix_regex.proofs.Tables.{entry_grown}
 use Rattle.posix_regex.proofs.table.row.Goals as goal
@@ -41,7 +41,7 @@ pub returns-clause-value : goal.returns-clause-value
 returns-clause-value g c =
     let set = c.index-set.result.now in
     let inv = c.loop-byte.invariant in
-    let is : slice_get c.args.sets.now.items c.args.number ≡ Some set = slice_get-get_or c.args.sets.now.items c.args.number 0 c.requires.some ∙ ap Some (sym c.index-set.ensures) in (
+    let is : slice_get c.args.sets.now.items c.args.number ≡ Some set = slice_get_read c.args.sets.now.items (length c.args.sets.now.items) c.args.number set refl c.requires.some c.index-set.ensures in (
       set,
       inv.grown c.args.number set is,
       record {

@@ -1,4 +1,4 @@
-use Rattle.std.proofs.Common.{◌≡◌, [], ◌∷◌, ◌++◌, length, IfSome, sym, ap, subst, arith, length-append}
+use Rattle.std.proofs.Common.{◌≡◌, [], ◌∷◌, ◌++◌, length, IfSome, sym, ap, subst, arith, rules, length-append}
 use Rattle.posix_regex.specs.declared.row.Row.{Row}
 use Rattle.posix_regex.specs.Table.{AreRows, IsMade}
 use Rattle.posix_regex.proofs.Tables.{rows_more}
@@ -14,7 +14,8 @@ loop-rows-preserved g c =
     let row : Row = c.in-Some.made in
     let more : c.push.new.self.items ≡ old ++ row ∷ [] = c.in_ok-push-in-Some.ensures.items in
     let here : IsMade items new c.len-number.result row = subst (λ o. IfSome o (λ x. IsMade items new c.len-number.result x)) c.in-Some.is e.value in
-    let made : IsMade items new (length old) row = subst (λ k. IsMade items new k row) c.len-number.ensures here in
+    let at : c.len-number.result ≡ length old = search rules in
+    let made : IsMade items new (length old) row = subst (λ k. IsMade items new k row) at here in
     record {
       now_width = e.now_width;
       next_width = e.next_width;
