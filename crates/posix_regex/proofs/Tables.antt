@@ -2,17 +2,16 @@
 use Rattle.std.proofs.Common.{◌≡◌, ◌⊎◌, ◌↔◌, ℕ, zero, suc, ◌+◌, ◌<◌, ◌≤◌, ◌*◌, ◌%◌, ◌^◌, ◌==◌, ◌||◌, w64, Bool, true, false, not, List, [], ◌∷◌, ◌++◌, length, slice_get, slice_index, Contains, Option, Some, None, refl, sym, ap, ◌∙◌, subst, inl, inr, ⊎_elim, arith}
 use Rattle.std.specs.Prelude.{⊤, is_some}
 use Rattle.std.specs.Int.Bits.{bit_or}
-use Rattle.std.proofs.lemmas.Bool.{false≢true, eq-eqb, ne_eqb, eqb-true, cases_lt, cases_eq, or_right}
+use Rattle.std.proofs.lemmas.Bool.{false≢true, eq-eqb, ne_eqb, eqb-true, cases_eq, or_right}
 use Rattle.std.proofs.lemmas.Option.{slice_get_within}
 use Rattle.std.proofs.lemmas.Nat.Bits.{bit_at-zero, bit_at_set_same, bit_at_set_other}
-use Rattle.byte_class.specs.ByteSet.{members}
-use Rattle.byte_class.proofs.Members.{members_pass, members_with}
+use Rattle.byte_class.proofs.Members.{members_pass}
 use Rattle.posix_regex.specs.declared.row.Row.{Row}
 use Rattle.posix_regex.specs.Program.{Item, Takes, AtStart, AtEnd, Fork, Back, Skip}
-use Rattle.posix_regex.specs.Moves.{Leads, Comes, Reached, ReachesEnd, Silent, Still}
+use Rattle.posix_regex.specs.Moves.{Leads, Reached, ReachesEnd, Silent}
 use Rattle.posix_regex.specs.Table.{has_state, states_of, Begins, Passes, Stepped, Follows, Closes, Ends, Entry, IsRow, IsMade, Grown, AreRows, IsTable}
 use Rattle.posix_regex.proofs.Searching.{Waiting, Spread, waiting_next, waiting_done, still_reached, next_reached}
-use Rattle.posix_regex.proofs.Starts.{Ever, begun_anywhere}
+use Rattle.posix_regex.proofs.Starts.{begun_anywhere}
 
 or_none : (b : Bool) → b ≡ (b || false)
 or_none true = refl
@@ -130,10 +129,14 @@ entry_grown items old new first byte set entry grown h =
     ⊎_elim (λ found. inl found) (λ more. inr (more.0, more.1, (more.2.0, grown entry more.2.0 more.2.1, more.2.2))) h
 
 pub made_grown : (items : List Item) (old new : List ℕ) (number : ℕ) (row : Row) → Grown old new → IsMade items old number row → IsMade items new number row
-made_grown items old new number row grown h = (h.0, grown number h.0 h.1, record {
-  entries = λ byte fits. entry_grown items old new (number == 0) byte h.0 (slice_index row.next byte) grown (h.2.entries byte fits);
-  ends = h.2.ends;
-})
+made_grown items old new number row grown h = (
+  h.0,
+  grown number h.0 h.1,
+  record {
+    entries = λ byte fits. entry_grown items old new (number == 0) byte h.0 (slice_index row.next byte) grown (h.2.entries byte fits);
+    ends = h.2.ends;
+  },
+)
 
 abbrev row_in : Row → Option Row → Row
 row_in other None = other
@@ -239,14 +242,14 @@ module _ (items : List Item) (rows : List Row) (text : List ℕ) (number at : �
       stands_next ne = ⊎_elim
           (λ h. absurd (ne h.0))
           (λ h. record {
-          sets = s.sets;
-          enough = s.enough;
-          made = s.made;
-          low = omega (arith, h.1);
-          set = h.2.0;
-          is = h.2.1;
-          kind = (λ e. absurd (omega (arith, h.0, eqb-true (slice_index row.next (slice_index text at)) 0 e)), λ e. absurd (omega (arith, e)));
-          waiting = stepped_next items text at s.set s.waiting (omega (arith, within)) h.2.0 (h.2.2 text at within refl s.kind);
+            sets = s.sets;
+            enough = s.enough;
+            made = s.made;
+            low = omega (arith, h.1);
+            set = h.2.0;
+            is = h.2.1;
+            kind = (λ e. absurd (omega (arith, h.0, eqb-true (slice_index row.next (slice_index text at)) 0 e)), λ e. absurd (omega (arith, e)));
+            waiting = stepped_next items text at s.set s.waiting (omega (arith, within)) h.2.0 (h.2.2 text at within refl s.kind);
           })
           entry_is
 

@@ -1,5 +1,5 @@
 -- A table of sets of states, each a word of bits.
-use Rattle.std.specs.Prelude.{◌≡◌, ◌≢◌, ◌⊎◌, ◌↔◌, ℕ, zero, suc, ◌+◌, ◌<◌, ◌≤◌, ◌==◌, Bool, true, false, List, [], ◌∷◌, length, slice_get, slice_index, Contains, Option, Some, None}
+use Rattle.std.specs.Prelude.{◌≡◌, ◌⊎◌, ◌↔◌, ℕ, ◌+◌, ◌<◌, ◌≤◌, ◌==◌, Bool, true, false, List, length, slice_get, slice_index, Contains, Option, Some, None}
 use Rattle.std.specs.Int.{bit_at}
 use Rattle.byte_class.specs.ByteSet.{members}
 use Rattle.posix_regex.specs.declared.row.Row.{Row}

@@ -229,16 +229,7 @@ fn row<L: Ledger>(
     let end = ends(states, number == 0, set, now, next, steps);
     let mut entries = [FOUND; 256];
     for byte in 0..256usize {
-        match entry(
-            states,
-            number == 0,
-            byte as u8,
-            set,
-            sets,
-            now,
-            next,
-            steps,
-        )? {
+        match entry(states, number == 0, byte as u8, set, sets, now, next, steps)? {
             None => return Ok(None),
             Some(next_entry) => entries[byte] = next_entry,
         }

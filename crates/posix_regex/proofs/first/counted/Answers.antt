@@ -17,9 +17,9 @@ returns-clause-first g c =
     let all = c.spread.new.now.order in
     let next = c.spread.new.next.order in
     let begun : (s : ℕ) → Contains start s → Reached items [] s 0 = λ s h. ⊎_elim
-        (λ there. absurd (omega (arith, there.1, ap length c.clear.ensures.empty)))
-        (λ z. (0, (z.1, omega arith)))
-        (only_more old start c.clear.new.self.width 0 s c.insert.ensures.order h) in
+    (λ there. absurd (omega (arith, there.1, ap length c.clear.ensures.empty)))
+    (λ z. (0, (z.1, omega arith)))
+    (only_more old start c.clear.new.self.width 0 s c.insert.ensures.order h) in
     let p : Spread items [] start all next 0 = record { kept = e.kept; next_sound = λ s h. next_reached items [] start 0 begun all e.sound s (e.next_sound s h); closed = e.closed refl; unfinished = e.unfinished refl } in
     let there = λ (n s i : ℕ) (h : Comes n items [] s i) (le : s ≤ length items).
     let b = begun_anywhere items [] (MayBegin [] None) (λ k. tt) n s i h in

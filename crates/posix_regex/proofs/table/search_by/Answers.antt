@@ -1,6 +1,5 @@
-use Rattle.std.proofs.Common.{◌≡◌, ◌<◌, [], length, false, slice_get, slice_index, get_or, Some, refl, arith}
+use Rattle.std.proofs.Common.{◌≡◌, [], false, slice_get, get_or, Some, refl, arith}
 use Rattle.std.proofs.lemmas.Option.{slice_get-get_or}
-use Rattle.std.proofs.lemmas.Bool.{eqb-true, eq-eqb}
 use Rattle.posix_regex.specs.declared.row.Row.{Row}
 use Rattle.posix_regex.proofs.Tables.{stands_first, stands_inside, stands_found, stands_next, stands_end}
 use Rattle.posix_regex.proofs.table.search_by.Goals as goal

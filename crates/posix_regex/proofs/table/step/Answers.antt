@@ -1,4 +1,4 @@
-use Rattle.std.proofs.Common.{◌≡◌, ◌⊎◌, ℕ, ◌+◌, ◌<◌, length, Contains, List, ap, refl, inl, inr, ⊎_elim, arith}
+use Rattle.std.proofs.Common.{length, ap, refl, inl, inr, ⊎_elim, arith}
 use Rattle.byte_class.proofs.Members.{members_pass, members_with}
 use Rattle.posix_regex.specs.Table.{has_state, states_of, Begins}
 use Rattle.posix_regex.proofs.Inserted.{only_more}
