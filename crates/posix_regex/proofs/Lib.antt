@@ -17,4 +17,5 @@ pub mod Singles
 pub mod Sound
 pub mod Starts
 pub mod Stretches
+pub mod Tables
 pub mod Whole

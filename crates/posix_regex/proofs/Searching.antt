@@ -3,7 +3,7 @@ use Rattle.std.proofs.Common.{◌≡◌, ◌⊎◌, ℕ, zero, suc, ◌+◌, ◌
 use Rattle.std.proofs.lemmas.Bool.{cases_lt}
 use Rattle.std.proofs.lemmas.Option.{slice_get_past}
 use Rattle.posix_regex.specs.Program.{Item, Takes, AtStart, AtEnd, Fork, Back, Skip}
-use Rattle.posix_regex.specs.Moves.{Leads, Reached}
+use Rattle.posix_regex.specs.Moves.{Leads, Reached, Silent, Still}
 use Rattle.posix_regex.proofs.Sound.{lead_at}
 use Rattle.posix_regex.proofs.Starts.{Begun, Ever}
 
@@ -40,6 +40,18 @@ pub record Spread (items : List Item) (text now all next : List ℕ) (at : ℕ) 
   pub closed : (s u j : ℕ) → Contains all s → Leads text (slice_get items s) s at u j → u ≤ length items → ((j ≡ at) × Contains all u) ⊎ ((j ≡ at + 1) × Contains next u)
   pub unfinished : Contains all (length items) → ⊥
 
+module _ (items : List Item) (text from : List ℕ) (at : ℕ) (reached : (s : ℕ) → Contains from s → Reached items text s at) where
+  silent_reached : (n s : ℕ) → Silent n items text from at s → Reached items text s at
+  silent_reached zero s h = reached s h
+  silent_reached (suc n) s h = let r = silent_reached n h.0 h.1 in (suc r.0, (h.0, at, r.1, h.2))
+
+  pub still_reached : (s : ℕ) → Still items text from at s → Reached items text s at
+  still_reached s h = silent_reached h.0 s h.1
+
+  -- what one move by a byte leads to
+  pub next_reached : (all : List ℕ) → ((t : ℕ) → Contains all t → Still items text from at t) → (s : ℕ) → (t : ℕ) × Contains all t × Leads text (slice_get items t) t at s (at + 1) → Reached items text s (at + 1)
+  next_reached all sound s h = let r = still_reached h.0 (sound h.0 h.1) in (suc r.0, (h.0, at, r.1, h.2))
+
 module _ (Start : ℕ → Type 0) (items : List Item) (text : List ℕ) where
   pub waiting_first : (order : List ℕ) → order ≡ [] → Waiting Start items text order 0
   waiting_first order empty = record {
@@ -48,7 +60,7 @@ module _ (Start : ℕ → Type 0) (items : List Item) (text : List ℕ) where
     none = λ k lt ever. absurd (omega (arith, lt));
   }
 
-  module _ (now begun all next : List ℕ) (at : ℕ) (r : Waiting Start items text now at) (kept : (s : ℕ) → Contains now s → Contains begun s) (start : Start at → Contains begun 0) (p : Spread items text begun all next at) where
+  module _ (now begun all next : List ℕ) (at : ℕ) (r : Waiting Start items text now at) (kept : (s : ℕ) → s ≤ length items → Contains now s → Contains begun s) (start : Start at → Contains begun 0) (p : Spread items text begun all next at) where
     pub all_there : (n s i : ℕ) → i ≡ at → Begun Start n items text s i → s ≤ length items → Contains all s
     all_there zero s i same h le = subst (λ x. Contains all x) (sym h.0) (p.kept 0 (start (subst Start same h.2)))
     all_there (suc n) s i same h le =
@@ -59,7 +71,7 @@ module _ (Start : ℕ → Type 0) (items : List Item) (text : List ℕ) where
         let lead : Leads text (slice_get items t) t k s at = subst (λ x. Leads text (slice_get items t) t k s x) same h.3 in
         let when : (k ≡ at) → Contains all t = λ e. all_there n t k e h.2 (omega (arith, inside)) in
         ⊎_elim
-        (λ (before : k < at). p.kept s (kept s (r.fed t k s before (n, h.2) lead le)))
+        (λ (before : k < at). p.kept s (kept s le (r.fed t k s before (n, h.2) lead le)))
         (λ (last : at ≤ k).
         let e : k ≡ at = omega (arith, last, f.0, same) in
         ⊎_elim (λ a. a.1) (λ a. absurd (omega (arith, a.0))) (p.closed t s at (when e) (subst (λ x. Leads text (slice_get items t) t x s at) e lead) le))
@@ -102,7 +114,7 @@ module _ (Start : ℕ → Type 0) (items : List Item) (text : List ℕ) where
   waiting_later (suc d) at r idle =
       subst (λ x. Waiting Start items text [] x) (let e : (at + 1) + d ≡ at + suc d = omega arith in e)
       (waiting_later d (at + 1)
-      (waiting_next [] [] [] [] at r (λ s h. h) (λ here. absurd (idle at (omega arith) (omega arith) here)) (nothing at))
+      (waiting_next [] [] [] [] at r (λ s le h. h) (λ here. absurd (idle at (omega arith) (omega arith) here)) (nothing at))
       (λ k low high. idle k (omega (arith, low)) (omega (arith, high))))
 
   pub waiting_at : (now : List ℕ) (at to : ℕ) → at < to → (at + 1 < to → now ≡ []) → ((k : ℕ) → at + 1 ≤ k → k < to → Start k → ⊥) → Waiting Start items text now (at + 1) → Waiting Start items text now to

@@ -12,5 +12,6 @@ pub mod Pattern
 pub mod Program
 pub mod Reader
 pub mod StateSet
+pub mod Table
 pub mod Texts
 pub mod Token

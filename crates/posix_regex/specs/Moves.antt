@@ -25,3 +25,12 @@ Reached items text s i = (count : ℕ) × Comes count items text s i
 -- the items reach their end somewhere in the text
 abbrev pub ReachesEnd : List Item → List ℕ → Type 0
 ReachesEnd items text = (j : ℕ) × Reached items text (length items) j
+
+-- so many moves lead, without a byte, from some items to an item, all at this place of the text
+abbrev pub Silent : ℕ → List Item → List ℕ → List ℕ → ℕ → ℕ → Type 0
+Silent zero items text from i s = Contains from s
+Silent (suc count) items text from i s = (t : ℕ) × Silent count items text from i t × Leads text (slice_get items t) t i s i
+
+-- some moves lead there
+abbrev pub Still : List Item → List ℕ → List ℕ → ℕ → ℕ → Type 0
+Still items text from i s = (count : ℕ) × Silent count items text from i s

@@ -12,9 +12,11 @@ mod literal;
 mod pattern;
 mod reader;
 mod regex;
+mod row;
 mod search;
 mod state_set;
 mod states;
+mod table;
 #[cfg(test)]
 mod tests;
 mod token;

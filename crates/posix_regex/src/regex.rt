@@ -13,9 +13,11 @@ use crate::first::{first_bytes, lacks_all};
 use crate::fragment::MAX_SIZE;
 use crate::literal::literal;
 use crate::pattern::read_pattern;
+use crate::row::Row;
 use crate::search::search;
 use crate::state_set::StateSet;
 use crate::states::States;
+use crate::table::{search_by, table_of};
 use byte_class::{ByteSet, Steps};
 use memchr::memmem::Finder;
 use std::alloc::{AllocError, Global};
@@ -23,27 +25,30 @@ use std::marker::Model;
 use std::sync::ledger::Ledger;
 
 /// A regular expression over bytes, after POSIX (Base Definitions, "Regular Expressions"), with what a search of a text
-/// fills. It has no back-references, collating symbols or equivalence classes, and no escapes of letters or digits.
+/// fills and, where it is small, with the table of its sets of states. It has no back-references, collating symbols or equivalence classes, and no escapes of letters or digits.
 #[derive(Drop)]
 pub struct Regex {
     states: States,
     finder: Option<Finder<'static>>,
     first: Option<ByteSet>,
+    table: Option<Vec<Row>>,
     reached: StateSet,
     following: StateSet,
 }
 
 impl Model for Regex {
-    ghost use Rattle.std.specs.Prelude.{◌≡◌, ◌+◌, length};
+    ghost use Rattle.std.specs.Prelude.{◌≡◌, ◌+◌, IfSome, length};
     ghost use Rattle.posix_regex.specs.First.{AreFirst, bytes_of};
     ghost use Rattle.posix_regex.specs.Literal.{AreNeeded, Compiled, literal_of};
+    ghost use Rattle.posix_regex.specs.Table.{IsTable};
 
     ghost Value = { Compiled };
 
     ghost view = { λ r. record { items = r.states; literal = literal_of r.finder; first = bytes_of r.first } };
 
     ghost invariant = { λ r. (r.reached.width ≡ length r.states + 1) × (r.following.width ≡ length r.states + 1)
-        × AreNeeded r.states (literal_of r.finder) × AreFirst r.states (bytes_of r.first) };
+        × AreNeeded r.states (literal_of r.finder) × AreFirst r.states (bytes_of r.first)
+        × IfSome r.table (λ rows. IsTable r.states rows.items) };
 }
 
 /// What finds the bytes, if there are any.
@@ -67,12 +72,14 @@ fn with_sets(alloc: Global, states: States) -> Result<Regex, AllocError>
     let mut reached = StateSet::new(alloc, width)?;
     let mut following = StateSet::new(alloc, width)?;
     let first = first_bytes(&states, &mut reached, &mut following);
+    let table = table_of(alloc, &states, &mut reached, &mut following)?;
     let bytes = literal(alloc, &states)?;
     let finder = finder_of(alloc, &bytes)?;
     Ok(Regex {
         states,
         finder,
         first,
+        table,
         reached,
         following,
     })
@@ -129,6 +136,9 @@ impl Regex {
         }
         if lacks_all(&self.first, text) {
             return false;
+        }
+        if let Some(rows) = &self.table {
+            return search_by(&self.states, rows, text, steps);
         }
         search(
             &self.states,

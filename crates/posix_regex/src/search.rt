@@ -2,7 +2,7 @@
 ghost use Rattle.std.specs.Prelude.{◌≡◌, ◌⊎◌, ◌<◌, ◌≤◌, ◌+◌, ℕ, [], length, slice_get, slice_index, Contains, IsTrue, IsFalse, ◌↔◌, ◌*◌};
 ghost use Rattle.posix_regex.specs.First.{AreFirst, MayBegin, bytes_of};
 ghost use Rattle.posix_regex.specs.Lead.{LeadsTo};
-ghost use Rattle.posix_regex.specs.Moves.{Leads, Reached, ReachesEnd};
+ghost use Rattle.posix_regex.specs.Moves.{Leads, ReachesEnd, Still};
 
 use crate::first::{may_begin, next_start};
 use crate::state_set::StateSet;
@@ -48,14 +48,13 @@ pub(crate) fn spread<L: Ledger>(
     requires place { at ≤ length text.now }
     requires now_width { now.old.width ≡ length states.now + 1 }
     requires next_width { next.old.width ≡ length states.now + 1 }
-    requires sound { (s : ℕ) → Contains now.old.order s → Reached states.now text.now s at }
     requires empty { next.old.order ≡ [] }
     ensures now_width { now.new.width ≡ now.old.width }
     ensures next_width { next.new.width ≡ next.old.width }
     ensures kept { (s : ℕ) → Contains now.old.order s → Contains now.new.order s }
-    ensures sound { (s : ℕ) → Contains now.new.order s → Reached states.now text.now s at }
-    ensures next_sound { (s : ℕ) → Contains next.new.order s → Reached states.now text.now s (at + 1) }
-    ensures found { IsTrue result → Reached states.now text.now (length states.now) at }
+    ensures sound { (s : ℕ) → Contains now.new.order s → Still states.now text.now now.old.order at s }
+    ensures next_sound { (s : ℕ) → Contains next.new.order s → (t : ℕ) × Contains now.new.order t × Leads text.now (slice_get states.now t) t at s (at + 1) }
+    ensures found { IsTrue result → Still states.now text.now now.old.order at (length states.now) }
     ensures closed { IsFalse result → (s u j : ℕ) → Contains now.new.order s → Leads text.now (slice_get states.now s) s at u j → u ≤ length states.now
         → ((j ≡ at) × Contains now.new.order u) ⊎ ((j ≡ at + 1) × Contains next.new.order u) }
     ensures unfinished { IsFalse result → Contains now.new.order (length states.now) → ⊥ }

@@ -4,7 +4,7 @@ ghost use Rattle.std.specs.Prelude.{◌≡◌, ◌<◌};
 use crate::fault::{RegexCause, RegexFault};
 use crate::regex::Regex;
 use byte_class::Steps;
-use std::alloc::Global;
+use std::alloc::{AllocError, Global};
 use std::marker::Brand;
 use std::sync::ledger::{Blank, Ledger};
 use std::test::Fail;
@@ -332,6 +332,61 @@ fn expressions_find_worked_texts(rt: HostRuntime) -> Result<(), Fail> {
     let wrong = first_missed(rt.alloc(), FOUND);
     assert!(rt; wrong.is_none(), "{wrong:?}");
     Ok(())
+}
+
+// Extended expressions and texts, `-` for the empty one, after whether the text is found.
+const TABLES: &str = r"y ^ a
+y $ a
+y ^ -
+y $ -
+y ^$ -
+n ^$ a
+y a|$ b
+y a|$ -
+n ^a|b$ ca
+y (^a|b)*c$ abc
+y (^a|b)*c$ bbc
+n (^a|b)*c$ abca
+y (^a|b)*c$ xac
+n (^a|b)c$ xac
+y (^a|b)c$ xbc
+y (^a|b)c$ ac
+n a$ ab
+y b$ ab
+y a a
+n a b
+n a -
+y .. ab
+n .. a
+y ^a*$ aaaa
+n ^a*$ aaba
+y [xy].*[yz]$ axby
+n [xy].*[yz]$ axbyb
+y a(a|b){8}c abbbbbbbbc
+n a(a|b){8}c bbbbbbbbbc";
+
+// With 64 states more an expression has no table, and finds the same in these texts.
+#[test]
+fn tables_find_what_states_find(rt: HostRuntime) -> Result<(), Fail> {
+    let alloc = rt.alloc();
+    for row in TABLES.lines() {
+        assert!(rt; finds_both_ways(alloc, row)?, "{row}");
+    }
+    Ok(())
+}
+
+fn finds_both_ways(alloc: Global, row: &str) -> Result<bool, AllocError> {
+    let Some((answer, case)) = row.split_once(' ') else {
+        return Ok(false);
+    };
+    let Some((pattern, text)) = case.split_once(' ') else {
+        return Ok(false);
+    };
+    let text = if text == "-" { "" } else { text };
+    let wide = format!(in alloc; "{pattern}|~{{64}}")?;
+    let found = finds(alloc, pattern.as_bytes(), text.as_bytes(), true, false);
+    let widely = finds(alloc, wide.as_bytes(), text.as_bytes(), true, false);
+    Ok(found == (answer == "y") && widely == found)
 }
 
 #[test]

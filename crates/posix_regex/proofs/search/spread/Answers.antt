@@ -1,6 +1,6 @@
-use Rattle.std.proofs.Common.{◌≡◌, ℕ, ◌+◌, ◌<◌, ◌≤◌, length, slice_get, get_or, refl, sym, ap, ◌∙◌, subst, inl, inr, suc, ⊎_elim, arith}
+use Rattle.std.proofs.Common.{◌≡◌, ℕ, ◌+◌, ◌<◌, ◌≤◌, length, slice_get, Contains, get_or, refl, sym, ap, ◌∙◌, subst, inl, inr, suc, ⊎_elim, arith}
 use Rattle.std.proofs.lemmas.Bool.{cases_lt}
-use Rattle.posix_regex.specs.Moves.{Leads, Reached}
+use Rattle.posix_regex.specs.Moves.{Leads, Still}
 use Rattle.posix_regex.proofs.Inserted.{contains_at, place_of}
 use Rattle.posix_regex.proofs.search.spread.Goals as goal
 
@@ -10,7 +10,7 @@ loop-k-init g c = record {
   next_width = refl;
   so_far = omega arith;
   kept = λ s h. h;
-  sound = c.requires.sound;
+  sound = λ s h. (0, h);
   next_sound = λ s h. absurd (omega (arith, h.1, ap length c.requires.empty));
   closed = λ m u j lt lead le. absurd (omega arith);
   unfinished = λ m lt e. absurd (omega arith);
@@ -28,7 +28,8 @@ loop-k-preserved g c =
     let text = c.args.text.now in
     let within : c.loop-k.k < length old = omega (arith, c.loop-k-test.true, c.len.ensures.value) in
     let here : s0 ≡ get_or old c.loop-k.k 0 = c.at-state.ensures.value in
-    let reached : Reached items text s0 c.args.at = inv.sound s0 (contains_at old c.loop-k.k s0 within here) in
+    let there : Contains old s0 = contains_at old c.loop-k.k s0 within here in
+    let reached : Still items text c.args.now.now.order c.args.at s0 = inv.sound s0 there in
     let wide : c.loop-k.now.width ≡ length items + 1 = omega (arith, inv.now_width, c.requires.now_width) in
     let stays : (m : ℕ) → m < length old → get_or new m 0 ≡ get_or old m 0 = c.insert.ensures.same in
     record {
@@ -36,8 +37,8 @@ loop-k-preserved g c =
       next_width = c.insert.ensures.next_width ∙ inv.next_width;
       so_far = omega (arith, c.insert.ensures.longer, within);
       kept = λ s h. c.insert.ensures.now_kept s (inv.kept s h);
-      sound = λ s h. ⊎_elim (λ h0. inv.sound s h0) (λ to. (suc reached.0, (s0, c.args.at, reached.1, (c.lead-lead.ensures.value s c.args.at (omega (arith, to.0, wide))).1 (to.1 c.args.at)))) (c.insert.ensures.now_only s h);
-      next_sound = λ s h. ⊎_elim (λ h0. inv.next_sound s h0) (λ to. (suc reached.0, (s0, c.args.at, reached.1, (c.lead-lead.ensures.value s (c.args.at + 1) (omega (arith, to.0, wide))).1 (to.1 c.args.at)))) (c.insert.ensures.next_only s h);
+      sound = λ s h. ⊎_elim (λ h0. inv.sound s h0) (λ to. (suc reached.0, (s0, reached.1, (c.lead-lead.ensures.value s c.args.at (omega (arith, to.0, wide))).1 (to.1 c.args.at)))) (c.insert.ensures.now_only s h);
+      next_sound = λ s h. ⊎_elim (λ h0. let q = inv.next_sound s h0 in (q.0, c.insert.ensures.now_kept q.0 q.1, q.2)) (λ to. (s0, c.insert.ensures.now_kept s0 there, (c.lead-lead.ensures.value s (c.args.at + 1) (omega (arith, to.0, wide))).1 (to.1 c.args.at))) (c.insert.ensures.next_only s h);
       closed = λ m u j lt lead le. ⊎_elim
           (λ (before : m < c.loop-k.k).
           ⊎_elim

@@ -1,9 +1,10 @@
-use Rattle.std.proofs.Common.{◌≡◌, false, arith, refl, ap, sym, subst, ◌∙◌}
+use Rattle.std.proofs.Common.{◌≡◌, IfSome, false, arith, refl, ap, sym, subst, ◌∙◌}
 use Rattle.std.proofs.lemmas.Bool.{false≢true}
 use Rattle.posix_regex.specs.First.{bytes_of}
 use Rattle.posix_regex.specs.Literal.{Compiled}
 use Rattle.posix_regex.specs.Moves.{ReachesEnd}
 use Rattle.posix_regex.specs.Program.{items_of}
+use Rattle.posix_regex.specs.Table.{IsTable}
 use Rattle.posix_regex.proofs.Finds.{is_finds}
 use Rattle.posix_regex.proofs.Found.{end_found, found_end}
 use Rattle.posix_regex.proofs.Starts.{none_begins}
@@ -42,3 +43,17 @@ returns-clause-value g c = λ e is.
 
 pub returns-clause-decided : goal.returns-clause-decided
 returns-clause-decided g c = λ e is. is_finds e c.args.text.now c.search.result (returns-clause-value g c e is)
+
+pub search_by-requires : goal.search_by-requires
+search_by-requires g c = rw c.deref.ensures.value (subst (λ o. IfSome o (λ rows. IsTable c.self.inside.states rows.items)) c.in-Some.is c.self.invariant.4)
+
+pub returns-in-Some-clause-value : goal.returns-in-Some-clause-value
+returns-in-Some-clause-value g c = λ e is.
+    let same : c.self.inside.states ≡ items_of e = ap (λ (m : Compiled). m.items) c.self.view_is ∙ is in
+    let v = c.search_by.ensures.value in (
+      λ t. end_found e c.args.text.now (subst (λ items. ReachesEnd items c.args.text.now) same (v.0 t)),
+      λ f. v.1 (subst (λ items. ReachesEnd items c.args.text.now) (sym same) (found_end e c.args.text.now f)),
+    )
+
+pub returns-in-Some-clause-decided : goal.returns-in-Some-clause-decided
+returns-in-Some-clause-decided g c = λ e is. is_finds e c.args.text.now c.search_by.result (returns-in-Some-clause-value g c e is)
