@@ -25,7 +25,8 @@ use std::marker::Model;
 use std::sync::ledger::Ledger;
 
 /// A regular expression over bytes, after POSIX (Base Definitions, "Regular Expressions"), with what a search of a text
-/// fills and, where it is small, with the table of its sets of states. It has no back-references, collating symbols or equivalence classes, and no escapes of letters or digits.
+/// fills and, where it is small, a table of its sets of states. It has no back-references, collating symbols or
+/// equivalence classes, and no escapes of letters or digits.
 #[derive(Drop)]
 pub struct Regex {
     states: States,

@@ -234,7 +234,7 @@ fn row<L: Ledger>(
             Some(next_entry) => entries[byte] = next_entry,
         }
     }
-    Ok(Some(Row { next: entries, end }))
+    Ok(Some(Row::new(entries, end)))
 }
 
 /// The rows of a table, none where there is no room for a set more. It counts steps of its own.
@@ -301,12 +301,11 @@ pub(crate) fn search_by<L: Ledger>(
 {
     let mut number = 0;
     for at in 0..text.len() {
-        steps.tick();
-        let entry = rows[number].next[text[at] as usize];
+        let entry = rows[number].after(text[at], steps);
         if entry == FOUND {
             return true;
         }
         number = entry as usize;
     }
-    rows[number].end
+    rows[number].ends()
 }

@@ -1,7 +1,7 @@
 use Rattle.std.proofs.Common.{◌≡◌, ◌≢◌, ◌<◌, ◌≤◌, ◌==◌, length, get_or, set, slice_get, Some, IfSome, refl, sym, ◌∙◌, subst, ⊎_elim, arith, length-set, get_or-set_other, get_or-set_same}
 use Rattle.std.proofs.lemmas.Bool.{cases_lt}
 use Rattle.std.proofs.lemmas.Option.{slice_get_read}
-use Rattle.posix_regex.specs.Table.{Entry}
+use Rattle.posix_regex.specs.Table.{Entry, Ends}
 use Rattle.posix_regex.proofs.Tables.{entry_grown}
 use Rattle.posix_regex.proofs.table.row.Goals as goal
 
@@ -45,7 +45,8 @@ returns-clause-value g c =
       set,
       inv.grown c.args.number set is,
       record {
-        entries = λ b fits. inv.entries b (omega (arith, c.loop-byte-test.false, c.loop-byte.auto.byte-end, fits));
-        ends = c.ends-end.ensures.value;
+        entries = λ b fits. subst (λ l. Entry c.args.states.now c.loop-byte.sets.items (c.args.number == 0) b set (get_or l b 0)) (sym c.new.ensures.next)
+            (inv.entries b (omega (arith, c.loop-byte-test.false, c.loop-byte.auto.byte-end, fits)));
+        ends = subst (λ x. Ends c.args.states.now (c.args.number == 0) set x) (sym c.new.ensures.end) c.ends-end.ensures.value;
       },
     )

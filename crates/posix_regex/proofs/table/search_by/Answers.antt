@@ -1,7 +1,8 @@
-use Rattle.std.proofs.Common.{◌≡◌, [], false, slice_get, get_or, Some, refl, arith}
+use Rattle.std.proofs.Common.{◌≡◌, ◌↔◌, ◌+◌, [], true, false, slice_get, get_or, Some, refl, sym, ◌∙◌, subst, arith}
 use Rattle.std.proofs.lemmas.Option.{slice_get-get_or}
 use Rattle.posix_regex.specs.declared.row.Row.{Row}
-use Rattle.posix_regex.proofs.Tables.{stands_first, stands_inside, stands_found, stands_next, stands_end}
+use Rattle.posix_regex.specs.Moves.{ReachesEnd}
+use Rattle.posix_regex.proofs.Tables.{Stands, stands_first, stands_inside, stands_found, stands_next, stands_end}
 use Rattle.posix_regex.proofs.table.search_by.Goals as goal
 
 pub loop-at-init : goal.loop-at-init
@@ -31,7 +32,7 @@ returns-then-entry-clause-value g c =
     let st = c.loop-at.invariant.stands in
     let row : Row = get_or rows number (record { next = []; end = false }) in
     let here : slice_get rows number ≡ Some row = slice_get-get_or rows number (record { next = []; end = false }) (stands_inside c.args.states.now rows c.args.text.now number at st) in (
-      λ t. stands_found c.args.states.now rows c.args.text.now number at st row here c.loop-at-test.true (omega (arith, c.type_inv.text)) c.if-entry.true,
+      λ t. stands_found c.args.states.now rows c.args.text.now number at st row here c.loop-at-test.true (omega (arith, c.type_inv.text)) (sym c.after-entry.ensures.value ∙ c.if-entry.true),
       λ h. refl,
     )
 
@@ -44,9 +45,9 @@ loop-at-preserved g c =
     let row : Row = get_or rows number (record { next = []; end = false }) in
     let here : slice_get rows number ≡ Some row = slice_get-get_or rows number (record { next = []; end = false }) (stands_inside c.args.states.now rows c.args.text.now number at st) in
     record {
-      stands = stands_next c.args.states.now rows c.args.text.now number at st row here c.loop-at-test.true (omega (arith, c.type_inv.text)) c.if-entry.false;
-      rising = omega (arith, c.loop-at.invariant.rising, c.tick.ensures);
-      bound = omega (arith, c.loop-at.invariant.bound, c.tick.ensures);
+      stands = subst (λ n. Stands c.args.states.now rows c.args.text.now n (at + 1)) (sym c.after-entry.ensures.value) (stands_next c.args.states.now rows c.args.text.now number at st row here c.loop-at-test.true (omega (arith, c.type_inv.text)) (λ e. c.if-entry.false (c.after-entry.ensures.value ∙ e)));
+      rising = omega (arith, c.loop-at.invariant.rising, c.after-entry.ensures.counted);
+      bound = omega (arith, c.loop-at.invariant.bound, c.after-entry.ensures.counted);
     }
 
 pub returns-clause-value : goal.returns-clause-value
@@ -57,4 +58,5 @@ returns-clause-value g c =
     let st = c.loop-at.invariant.stands in
     let row : Row = get_or rows number (record { next = []; end = false }) in
     let here : slice_get rows number ≡ Some row = slice_get-get_or rows number (record { next = []; end = false }) (stands_inside c.args.states.now rows c.args.text.now number at st) in
-    stands_end c.args.states.now rows c.args.text.now number at st row here (omega (arith, c.loop-at-test.false, c.loop-at.auto.at-end))
+    subst (λ b. (b ≡ true) ↔ ReachesEnd c.args.states.now c.args.text.now) (sym c.ends.ensures)
+    (stands_end c.args.states.now rows c.args.text.now number at st row here (omega (arith, c.loop-at-test.false, c.loop-at.auto.at-end)))
