@@ -84,6 +84,14 @@ path_found (Mlocate r) = found_mlocate r
 path_found (Locate02 r) = found_locate02 r
 path_found (Bigram r) = found_bigram r
 
+-- how many of its first bytes are those of the path in hand before
+abbrev pub shares_in : Stage → ℕ
+shares_in Fresh = 0
+shares_in (Failed feed) = 0
+shares_in (Mlocate r) = r.shared
+shares_in (Locate02 r) = r.shared
+shares_in (Bigram r) = r.shared
+
 abbrev pub stored_in : Stage → ℕ
 stored_in Fresh = 0
 stored_in (Failed feed) = 0

@@ -3,9 +3,9 @@ ghost use Rattle.std.specs.Prelude.{◌≡◌, ◌≤◌, ◌<◌, ◌∷◌, []
 ghost use Rattle.loc_outside.specs.Causes.{Rose};
 ghost use Rattle.byte_feed.specs.Endings.{StopsAt};
 ghost use Rattle.byte_feed.specs.Paths.{after_paths, no_paths};
-ghost use Rattle.byte_feed.specs.Calls.{PreambleKnown, MovedKnown, EndsKnown, NoPreambleKnown, ReadsAhead, PlaceBehind, PlaceMoves, IsFound, is_found};
+ghost use Rattle.byte_feed.specs.Calls.{PreambleKnown, MovedKnown, EndsKnown, NoPreambleKnown, ReadsAhead, PlaceBehind, PlaceMoves, IsFound, Shares, is_found};
 ghost use Rattle.any_db.specs.Formats.{preamble_in, preamble_by, to_come_by};
-ghost use Rattle.any_db.specs.Reader.{FormatKnown, known_after, fresh, is_fresh, format_known, feed_of, paths_left, is_live, is_gated, path_found, stored_in, heads_in};
+ghost use Rattle.any_db.specs.Reader.{FormatKnown, known_after, fresh, is_fresh, format_known, feed_of, paths_left, is_live, is_gated, path_found, shares_in, stored_in, heads_in};
 
 use crate::format::{DatabaseFormat, look_format};
 use bigram_db::ReaderBigram;
@@ -127,6 +127,8 @@ impl PathStream for AnyReader {
 
     ghost found = { λ r. path_found r.stage };
 
+    ghost shares = { λ r. shares_in r.stage };
+
     ghost stored = { λ r. stored_in r.stage };
 
     ghost heads_read = { λ r. heads_in r.stage };
@@ -170,6 +172,7 @@ impl PathStream for AnyReader {
         ensures whole { result ≡ Ok false → StopsAt (feed_of self.new.stage) (stored_in self.new.stage) (Ok tt) }
         ensures stops { IfErr result (λ e. StopsAt (feed_of self.new.stage) (stored_in self.new.stage) (Err e)) }
         ensures found { IsTrue (is_found result) → IsFound (path_found self.new.stage) (stored_in self.new.stage) (heads_in self.new.stage) }
+        ensures shares { IsTrue (is_found result) → Shares (shares_in self.new.stage) (path_found self.old.stage).text (path_found self.new.stage).text }
         ensures grows { IsTrue (is_found result) → stored_in self.old.stage < stored_in self.new.stage }
         ensures place { PlaceMoves (feed_of self.new.stage) (stored_in self.old.stage) (stored_in self.new.stage) (heads_in self.new.stage) }
         ensures gate { is_gated self.new.stage ≡ is_gated self.old.stage }
@@ -205,6 +208,17 @@ impl PathStream for AnyReader {
             Stage::Mlocate(reader) => reader.dir_len(),
             Stage::Locate02(reader) => reader.dir_len(),
             Stage::Bigram(reader) => reader.dir_len(),
+            Stage::Fresh => 0,
+            Stage::Failed(_) => 0,
+        }
+    }
+
+    #[inline(always)]
+    fn shared(&self) -> usize {
+        match &self.stage {
+            Stage::Mlocate(reader) => reader.shared(),
+            Stage::Locate02(reader) => reader.shared(),
+            Stage::Bigram(reader) => reader.shared(),
             Stage::Fresh => 0,
             Stage::Failed(_) => 0,
         }

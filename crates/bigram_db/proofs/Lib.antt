@@ -1,4 +1,5 @@
 pub mod PairPlaces
+pub mod Numbered
 pub mod UnitLaws
 pub mod EntryLaws
 pub mod ItemSteady

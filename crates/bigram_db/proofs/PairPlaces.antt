@@ -1,10 +1,10 @@
 -- Where the numbers of the pairs stand.
-use Rattle.std.proofs.Common.{◌≡◌, ◌≢◌, ℕ, ◌+◌, ◌/◌, ◌%◌, ◌<◌, ◌≤◌, Bool, true, false, cond, eqb, ltb, leb, List, [], ◌∷◌, length, get_or, refl, sym, ap, ◌∙◌, inl, inr, arith}
+use Rattle.std.proofs.Common.{◌≡◌, ◌≢◌, ℕ, zero, suc, ◌+◌, ◌*◌, ◌/◌, ◌%◌, ◌<◌, ◌≤◌, Bool, true, false, cond, eqb, ltb, leb, List, [], ◌∷◌, length, get_or, refl, sym, ap, ◌∙◌, inl, inr, arith}
 use Rattle.std.specs.Prelude.{slice_set}
 use Rattle.std.proofs.lemmas.Bool.{and_parts, and_from, leb-true, ltb-true, eqb-true, eq-eqb, le-leb, lt-ltb, cases_Bool}
 use Rattle.std.proofs.lemmas.List.{get_or-set_same, get_or-set_other}
 use Rattle.std.proofs.lemmas.Nat.{mod_below, div_below, div-add-mod'}
-use Rattle.bigram_db.specs.Pairs.{Pair, is_same, is_plain}
+use Rattle.bigram_db.specs.Pairs.{Pair, is_same, pairs_of, pair_at, is_plain}
 use Rattle.bigram_db.specs.Chosen.{is_counted, times}
 use Rattle.bigram_db.specs.Counts.{index_of, times_of}
 
@@ -48,6 +48,16 @@ same_true p q e = let both = and_parts (eqb p.0 q.0) (eqb p.1 q.1) e in pair_is 
 
 pub same_itself : (p : Pair) → is_same p p ≡ true
 same_itself p = and_from (eqb p.0 p.0) (eqb p.1 p.1) (eq-eqb p.0 p.0 refl) (eq-eqb p.1 p.1 refl)
+
+-- the pair of a number is the one at its place
+pub pairs_at : (table : List ℕ) (n : ℕ) → n < length (pairs_of table) → get_or (pairs_of table) n (0, 0) ≡ pair_at table n
+pairs_at [] n lt = absurd (omega (arith, lt))
+pairs_at (a ∷ []) n lt = absurd (omega (arith, lt))
+pairs_at (a ∷ b ∷ rest) zero lt = refl
+pairs_at (a ∷ b ∷ rest) (suc n) lt =
+    let even : 2 * suc n ≡ suc (suc (2 * n)) = omega arith in
+    let odd : 2 * suc n + 1 ≡ suc (suc (2 * n + 1)) = omega arith in
+    pairs_at rest n (omega (arith, lt)) ∙ sym (ap (λ (k : ℕ). (get_or (a ∷ b ∷ rest) k 0, get_or rest (2 * n + 1) 0)) even) ∙ sym (ap (λ (k : ℕ). (get_or (a ∷ b ∷ rest) (2 * suc n) 0, get_or (a ∷ b ∷ rest) k 0)) odd)
 
 -- ---- the pair at a place
 

@@ -1,5 +1,5 @@
 -- What is written for paths spells them.
-use Rattle.std.proofs.Common.{◌≡◌, ℕ, zero, suc, ◌+◌, ◌-◌, ◌*◌, ◌<◌, ◌≤◌, Bool, true, false, cond, leb, ltb, All, List, [], ◌∷◌, ◌++◌, length, get_or, drop, Option, Some, None, refl, sym, ap, ◌∙◌, append_assoc, append-nil, arith}
+use Rattle.std.proofs.Common.{◌≡◌, ℕ, ◌+◌, ◌-◌, ◌<◌, ◌≤◌, Bool, true, false, cond, leb, ltb, All, List, [], ◌∷◌, ◌++◌, length, get_or, drop, Option, Some, None, refl, sym, ap, ◌∙◌, append_assoc, append-nil, arith}
 use Rattle.std.specs.Prelude.{◌&&◌, ℤ, pos, negsuc, ◌+ℤ◌, ◌-ℤ◌, is_some, unwrap_or}
 use Rattle.std.specs.Int.{w32, cast_unsigned, cast_signed, from_le_bytes}
 use Rattle.std.proofs.lemmas.Bool.{and_from, leb-true, le-leb, lt-ltb}
@@ -16,7 +16,7 @@ use Rattle.bigram_db.specs.Spelled.{IsPiece, SpellsAfter, SpellsBigram, word_of,
 use Rattle.bigram_db.specs.Writer.{WriterState, nothing_put, piece, after_put, after_all}
 use Rattle.byte_feed.proofs.CommonPrefix.{common_fits}
 use Rattle.bigram_db.proofs.EntryLaws.{table_len}
-use Rattle.bigram_db.proofs.PairPlaces.{same_true}
+use Rattle.bigram_db.proofs.PairPlaces.{same_true, pairs_at}
 use Rattle.bigram_db.proofs.PathPieces.{table_first}
 use Rattle.bigram_db.proofs.Words.{range_fits, range_same}
 
@@ -78,16 +78,6 @@ count_is : (old new : ℕ) → old ≤ 4096 → new ≤ 4096 → Between old new
 count_is old new low high = between_by old new (leb new (old + 14)) (leb old (new + 14)) refl refl low high
 
 -- ---- units
-
--- the pair of a number is the one at its place
-pairs_at : (table : List ℕ) (n : ℕ) → n < length (pairs_of table) → get_or (pairs_of table) n (0, 0) ≡ pair_at table n
-pairs_at [] n lt = absurd (omega (arith, lt))
-pairs_at (a ∷ []) n lt = absurd (omega (arith, lt))
-pairs_at (a ∷ b ∷ rest) zero lt = refl
-pairs_at (a ∷ b ∷ rest) (suc n) lt =
-    let even : 2 * suc n ≡ suc (suc (2 * n)) = omega arith in
-    let odd : 2 * suc n + 1 ≡ suc (suc (2 * n + 1)) = omega arith in
-    pairs_at rest n (omega (arith, lt)) ∙ sym (ap (λ (k : ℕ). (get_or (a ∷ b ∷ rest) k 0, get_or rest (2 * n + 1) 0)) even) ∙ sym (ap (λ (k : ℕ). (get_or (a ∷ b ∷ rest) (2 * suc n) 0, get_or (a ∷ b ∷ rest) k 0)) odd)
 
 number_is : (table : List ℕ) (p : Pair) (n : ℕ) → number_of table p ≡ Some n → pair_at table n ≡ p
 number_is table p n e =

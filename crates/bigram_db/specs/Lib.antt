@@ -3,6 +3,7 @@ pub mod Items
 pub mod Spelled
 pub mod Chosen
 pub mod Counts
+pub mod Numbers
 pub mod Entries
 pub mod Reader
 pub mod Writer

@@ -4,7 +4,7 @@ ghost use Rattle.bigram_db.specs.Pairs.{Pair};
 ghost use Rattle.bigram_db.specs.Chosen.{is_counted as counted_pair, counted_in, counted_behind, times, chosen, table_for};
 ghost use Rattle.bigram_db.specs.Counts.{times_of, index_of, ComesFirst, IsAfter, IsNextIn, IsNoneNext};
 
-use crate::table::{PairTable, is_plain};
+use crate::table::{PairTable, is_counted, place_of};
 use byte_feed::common_prefix;
 use std::alloc::{AllocError, Global};
 use std::marker::Model;
@@ -105,15 +105,7 @@ fn count_pair(numbers: &mut [u64], a: u8, b: u8)
     if !is_counted(a, b) {
         return;
     }
-    numbers[(a as usize - 32) * 96 + (b as usize - 32)] += 1;
-}
-
-/// Whether both bytes are from 32 to 127.
-#[inline(always)]
-fn is_counted(a: u8, b: u8) -> bool
-    ensures { result ≡ counted_pair (a, b) }
-{
-    is_plain(a) && is_plain(b)
+    numbers[place_of(a, b)] += 1;
 }
 
 /// Whether the number at a place is behind the last one taken.

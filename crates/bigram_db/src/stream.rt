@@ -1,6 +1,7 @@
 //! The parts of a database as they come off a stream.
 ghost use Rattle.std.specs.Prelude.{◌≡◌, ◌≤◌, ◌<◌, ◌-◌, ◌^◌, ◌+◌, ◌++◌, ◌↔◌, true, length, take, drop, IsOk, OnOk, IfOk, IfErr, IfSome, MatchOption, false, ◌*◌, All};
 ghost use Rattle.loc_outside.specs.Causes.{Rose};
+ghost use Rattle.byte_feed.specs.Calls.{Shares};
 ghost use Rattle.byte_feed.specs.Feed.{reach, Draws};
 ghost use Rattle.byte_feed.specs.Stream.{StreamGives, IsFault, BreaksAt};
 ghost use Rattle.bigram_db.specs.Pairs.{is_table as tables};
@@ -65,6 +66,7 @@ pub(crate) fn read_entry<S: Source>(
     ensures fits { length path.new ≤ 4096 }
     ensures some { OnOk result (0 < length path.new) }
     ensures shared { IfOk result (λ shared. shared ≤ 4096) }
+    ensures shares { IfOk result (λ shared. Shares shared path.old path.new) }
     ensures grows { OnOk result (feed.old.offset < feed.new.offset) }
     ensures near { feed.new.offset ≤ feed.old.offset + 8199 }
     ensures broke { BreaksAt feed.new result }

@@ -1,6 +1,7 @@
 //! Small databases, written and read, and what damage to them is told.
 ghost use Rattle.std.specs.Prelude.{◌<◌};
 
+use crate::table::is_table;
 use crate::{PairCounts, PairTable, ReaderBigram, WriterBigram};
 use byte_feed::{Damage, DamageCause, DbFault, Feed, PathStream};
 use loc_outside::{ByteByByte, Failed, MemFiles, MemSink, Reader, SliceSource, Source};
@@ -115,6 +116,40 @@ fn counts_a_list_of_paths(rt: HostRuntime) -> Result<(), AllocError> {
     // Behind `zz` the pair `zz` comes once, and `sr` no more often: the smaller one goes first.
     let table = PairTable::for_paths(rt.alloc(), &[b"zzsr", b"zz"])?;
     assert!(rt; table.bytes().starts_with(b"srzz\0\0"));
+    Ok(())
+}
+
+#[test]
+fn numbers_pairs(rt: HostRuntime) -> Result<(), AllocError> {
+    let mut bytes = [0; 256];
+    assert!(rt; is_table(&bytes));
+    let table = PairTable::new(bytes);
+    assert_eq!(rt; table.number_of(32, 32), None);
+    assert_eq!(rt; table.number_of(0, 0), Some(0));
+    bytes[0] = 32;
+    bytes[1] = 32;
+    bytes[2] = b'/';
+    bytes[3] = b'a';
+    bytes[4] = 127;
+    bytes[5] = 127;
+    // The pair `/a` stands twice: its first number counts.
+    bytes[6] = b'/';
+    bytes[7] = b'a';
+    bytes[8] = b'a';
+    bytes[254] = b'z';
+    bytes[255] = b'z';
+    assert!(rt; is_table(&bytes));
+    let table = PairTable::new(bytes);
+    assert_eq!(rt; table.number_of(32, 32), Some(0));
+    assert_eq!(rt; table.number_of(b'/', b'a'), Some(1));
+    assert_eq!(rt; table.number_of(127, 127), Some(2));
+    assert_eq!(rt; table.number_of(b'a', 0), Some(4));
+    assert_eq!(rt; table.number_of(0, 0), Some(5));
+    assert_eq!(rt; table.number_of(b'z', b'z'), Some(127));
+    assert_eq!(rt; table.number_of(b'a', b'/'), None);
+    assert_eq!(rt; table.number_of(32, 31), None);
+    assert_eq!(rt; table.number_of(128, b'a'), None);
+    assert_eq!(rt; table.number_of(255, 255), None);
     Ok(())
 }
 

@@ -1,5 +1,5 @@
 -- What a call does to the rest of a file, to its source and to a reader's place.
-use Rattle.std.specs.Prelude.{◌≡◌, ℕ, ◌+◌, ◌≤◌, ◌^◌, Bool, false, List, length, Option, Some, None, Result, Ok, Err, OnErr, if◌then◌else◌, ⊤, MatchBool}
+use Rattle.std.specs.Prelude.{◌≡◌, ℕ, ◌+◌, ◌≤◌, ◌^◌, Bool, false, List, length, take, Option, Some, None, Result, Ok, Err, OnErr, if◌then◌else◌, ⊤, MatchBool}
 use Rattle.byte_feed.specs.declared.damage.DbFault.{DbFault}
 use Rattle.byte_feed.specs.Front.{Window}
 use Rattle.byte_feed.specs.Feed.{FeedState, window, so_far, reach, Draws}
@@ -73,6 +73,11 @@ pub record PlaceMoves (f' : FeedState) (place place' heads' : ℕ) : Type 0 wher
   pub bound : place' ≤ 2 ^ 40
   pub near : f'.offset ≤ place' + 2 ^ 14
   pub heads : heads' ≤ place'
+
+-- The path begins with n bytes, those of the path before.
+pub record Shares (n : ℕ) (before path : List ℕ) : Type 0 where
+  pub within : n ≤ length path
+  pub same : take n path ≡ take n before
 
 -- The path has 1 to 4,096 bytes without byte 0, its directory's length is none above its own, and its item was read last.
 pub record IsFound (p : PathAt) (place' heads' : ℕ) : Type 0 where

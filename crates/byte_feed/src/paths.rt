@@ -5,7 +5,7 @@ ghost use Rattle.byte_feed.specs.Front.{Window};
 ghost use Rattle.byte_feed.specs.Feed.{FeedState};
 ghost use Rattle.byte_feed.specs.Endings.{StopsAt};
 ghost use Rattle.byte_feed.specs.Paths.{PathAt, ToCome, after_paths, no_paths};
-ghost use Rattle.byte_feed.specs.Calls.{MovedKnown, EndsKnown, PreambleKnown, NoPreambleKnown, ReadsAhead, PlaceBehind, PlaceMoves, IsFound, is_found};
+ghost use Rattle.byte_feed.specs.Calls.{MovedKnown, EndsKnown, PreambleKnown, NoPreambleKnown, ReadsAhead, PlaceBehind, PlaceMoves, IsFound, Shares, is_found};
 
 use crate::damage::DbFault;
 use loc_outside::Source;
@@ -34,6 +34,9 @@ pub trait PathStream {
 
     /// The path that was found last, until the next is asked for.
     ghost found: { Self → PathAt };
+
+    /// The number of its first bytes that are known to be those of the path in hand before.
+    ghost shares: { Self → ℕ };
 
     /// The number of bytes in the whole items so far.
     ghost stored: { Self → ℕ };
@@ -67,6 +70,7 @@ pub trait PathStream {
         ensures whole { result ≡ Ok false → StopsAt (feed self.new) (stored self.new) (Ok tt) }
         ensures stops { IfErr result (λ e. StopsAt (feed self.new) (stored self.new) (Err e)) }
         ensures found { IsTrue (is_found result) → IsFound (found self.new) (stored self.new) (heads_read self.new) }
+        ensures shares { IsTrue (is_found result) → Shares (shares self.new) (found self.old).text (found self.new).text }
         ensures grows { IsTrue (is_found result) → stored self.old < stored self.new }
         ensures place { PlaceMoves (feed self.new) (stored self.old) (stored self.new) (heads_read self.new) }
         ensures gate { is_gated self.new ≡ is_gated self.old }
@@ -83,6 +87,12 @@ pub trait PathStream {
     /// The length of its directory's path, or of the text before its base name where the format has no directories.
     fn dir_len(&self) -> usize
         ensures { result ≡ (found self.now).dir_len };
+
+    /// The number of the path's first bytes that are known to be those of the path in hand before it was asked for: the prefix
+    /// length of LOCATE02 and of a bigram database, the length of the directory's path within a block of mlocate's. It may be
+    /// less than the two have in common.
+    fn shared(&self) -> usize
+        ensures { result ≡ shares self.now };
 
     /// Whether the paths are shown only to those who may list their directories.
     fn asks_gate(&self) -> bool

@@ -1,6 +1,7 @@
 pub mod Cost
 pub mod Members
 pub mod BracketParts
-pub mod EitherCase
+pub mod Needles
+pub mod Spots
 pub mod Units
 pub mod Walk

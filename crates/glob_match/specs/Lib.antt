@@ -1,6 +1,7 @@
 pub mod Bracket
-pub mod Folded
 pub mod Item
 pub mod Language
+pub mod Needle
 pub mod Pattern
+pub mod Spot
 pub mod Stored

@@ -1,12 +1,14 @@
 //! Patterns of the shell.
-ghost use Rattle.std.specs.Prelude.{◌≡◌, ◌+◌, ◌*◌, ◌≤◌, ◌↔◌, length, IsTrue, IsSome, IfOk};
+ghost use Rattle.std.specs.Prelude.{◌≡◌, ℕ, ◌+◌, ◌*◌, ◌≤◌, ◌↔◌, List, length, take, IsTrue, IsSome, IfOk};
 ghost use Rattle.std.specs.Option.{option_copied};
 ghost use Rattle.glob_match.specs.Pattern.{wanted, items_of, plain_of, InGlob};
+ghost use Rattle.glob_match.specs.Spot.{Known};
 
-use crate::folded::Folded;
 use crate::items::Items;
 use crate::matching::matches_items;
+use crate::needle::Needle;
 use crate::reading::{is_plain, read_items, read_plain};
+use crate::spot::Spot;
 use byte_class::Steps;
 use memchr::memmem::Finder;
 use std::alloc::{AllocError, Global};
@@ -23,13 +25,13 @@ use std::sync::ledger::Ledger;
 pub struct Glob {
     items: Items,
     finder: Option<Finder<'static>>,
-    folded: Option<Folded>,
+    needle: Option<Needle>,
 }
 
 impl Model for Glob {
-    ghost use Rattle.std.specs.Prelude.{◌≡◌, [], ◌∷◌, ◌++◌, map, true, IfSome};
-    ghost use Rattle.glob_match.specs.Item.{Star};
-    ghost use Rattle.glob_match.specs.Pattern.{Wanted, literal, wanted_of};
+    ghost use Rattle.std.specs.Prelude.{◌≡◌, [], IfSome};
+    ghost use Rattle.glob_match.specs.Pattern.{Wanted, wanted_of};
+    ghost use Rattle.glob_match.specs.Needle.{plain_wanted};
 
     ghost Value = { Wanted };
 
@@ -37,7 +39,7 @@ impl Model for Glob {
 
     ghost invariant = { λ g.
         IfSome g.finder (λ _. g.items ≡ [])
-        × IfSome g.folded (λ bytes. g.items ≡ (Star ∷ map (literal true) bytes) ++ Star ∷ []) };
+        × IfSome g.needle (λ n. plain_wanted n.0 n.1 ≡ wanted_of g.finder g.items) };
 }
 
 impl Glob {
@@ -52,23 +54,23 @@ impl Glob {
             return Ok(Glob {
                 items,
                 finder: None,
-                folded: None,
+                needle: None,
             });
         }
+        let needle = Needle::new(alloc, pattern, fold)?;
         if fold {
             let items = read_plain(alloc, pattern)?;
-            let folded = Folded::new(alloc, pattern)?;
             return Ok(Glob {
                 items,
                 finder: None,
-                folded: Some(folded),
+                needle: Some(needle),
             });
         }
         let finder = Finder::new(pattern).into_owned(alloc)?;
         Ok(Glob {
             items: Items::new(alloc),
             finder: Some(finder),
-            folded: None,
+            needle: Some(needle),
         })
     }
 
@@ -82,10 +84,36 @@ impl Glob {
     {
         match &self.finder {
             Some(finder) => finder.find(text).is_some(),
-            None => match &self.folded {
-                Some(folded) => folded.occurs_in(text),
+            None => match &self.needle {
+                Some(needle) => needle.occurs_in(text),
                 None => matches_items(&self.items, text, steps),
             },
+        }
+    }
+
+    /// Whether the whole text matches, as `matches` tells, where it begins with so many bytes (`shared`)
+    /// of the text of which `spot` tells; it then tells of this text. Of a plain pattern only what follows
+    /// those bytes is searched, with as much before it as the pattern may reach back. It takes no memory.
+    #[inline(always)]
+    pub fn matches_next<L: Ledger>(
+        &self,
+        text: &[u8],
+        shared: usize,
+        spot: &mut Spot,
+        steps: &mut Steps<L>,
+    ) -> bool
+        ensures value { (before : List ℕ) → Known spot.old self.now before → take shared before ≡ take shared text.now → (IsTrue result ↔ InGlob self.now text.now) }
+        ensures known { (before : List ℕ) → Known spot.old self.now before → take shared before ≡ take shared text.now → Known spot.new self.now text.now }
+        ensures rising { steps.old ≤ steps.new }
+        ensures bound { steps.new ≤ steps.old + 2 * (length (items_of self.now) + 1) * (length text.now + 1) }
+        ensures plain { IsSome (plain_of self.now) → steps.new ≡ steps.old }
+    {
+        match &self.needle {
+            Some(needle) => needle.judge(text, shared, spot),
+            None => {
+                *spot = Spot::Unjudged;
+                self.matches(text, steps)
+            }
         }
     }
 

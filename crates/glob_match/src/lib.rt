@@ -2,14 +2,18 @@
 #![tactic(auto)]
 
 mod bracket;
-mod folded;
 pub mod glob;
 pub mod items;
 mod matching;
+mod needle;
+#[cfg(test)]
+mod next_tests;
 mod reading;
+pub mod spot;
 #[cfg(test)]
 mod tests;
 
 pub use byte_class::Steps;
 pub use glob::Glob;
 pub use items::Items;
+pub use spot::Spot;

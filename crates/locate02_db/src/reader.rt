@@ -84,6 +84,8 @@ impl PathStream for Reader02 {
 
     ghost found = { λ r. path_found r };
 
+    ghost shares = { λ r. r.shared };
+
     ghost stored = { λ r. r.place };
 
     ghost heads_read = { λ r. 0 };
@@ -129,6 +131,11 @@ impl PathStream for Reader02 {
 
     fn dir_len(&self) -> usize {
         base_start(self.path.bytes())
+    }
+
+    #[inline(always)]
+    fn shared(&self) -> usize {
+        self.shared as usize
     }
 
     fn asks_gate(&self) -> bool {

@@ -1,11 +1,11 @@
 -- Steps as paths.
-use Rattle.std.proofs.Common.{◌≡◌, ℕ, ◌+◌, List, [], ◌∷◌, ◌++◌, length, drop, Option, Ok, refl, sym, ap, subst, ◌∙◌, length-take, arith}
-use Rattle.std.proofs.lemmas.List.{take_all}
+use Rattle.std.proofs.Common.{◌≡◌, ℕ, ◌+◌, List, [], ◌∷◌, ◌++◌, length, take, drop, ◌≤◌, Option, Ok, refl, sym, ap, subst, ◌∙◌, length-take, arith}
+use Rattle.std.proofs.lemmas.List.{take-take, take_all}
 use Rattle.path_order.specs.Path.{joined}
 use Rattle.path_order.specs.declared.kind.Kind.{Kind}
 use Rattle.byte_feed.specs.Endings.{Ending}
 use Rattle.byte_feed.specs.Paths.{ToCome, rest_of, to_come, after_item, after_paths, path_here, no_items, no_paths}
-use Rattle.byte_feed.specs.Calls.{MovedKnown, EndsKnown}
+use Rattle.byte_feed.specs.Calls.{MovedKnown, EndsKnown, Shares}
 use Rattle.byte_feed.proofs.Steps.{paths_by_items}
 use Rattle.byte_feed.proofs.Preambles.{ends_paths}
 use Rattle.mlocate_db.specs.declared.db_reader.Stage.{Stage}
@@ -71,3 +71,12 @@ step_ends r l l' e place heads at count h =
     subst (λ (n : ℕ). EndsKnown (paths_left r) (no_paths n heads) r.feed l l' e) (sym at)
     (subst (λ (n : ℕ). EndsKnown (paths_left r) (no_paths r.place n) r.feed l l' e) (sym count)
     (ends_paths mlocate (state_of r) r.place r.place r.heads r.feed l l' e h))
+
+-- Where a reader goes on in a directory, the next path has its first bytes, too.
+pub entry_shares : (n : ℕ) (before : List ℕ) (r r' : ReaderState) → Shares n before r.path → n ≤ r.dir_len → ShowsEntry r r' → Shares n before r'.path
+entry_shares n before r r' shares within shows =
+    let fits : n ≤ r'.dir_len = omega (arith, within, shows.dir_len) in
+    record {
+      within = omega (arith, fits, shows.below);
+      same = sym (take-take n r'.dir_len r'.path fits) ∙ ap (take n) shows.dir ∙ take-take n r.dir_len r.path within ∙ shares.same;
+    }

@@ -16,7 +16,8 @@ use Rattle.mlocate_db.specs.declared.db_reader.Step.TheVariants as steps
 use Rattle.mlocate_db.specs.Items.{State, AtStart, Between, Inside, Header, Item, HeaderItem, HeadItem, EntryItem, EndItem, in_directory, mlocate}
 
 -- The path in hand, the length of its directory's path, the header's version and flag, the last head's time and device,
--- and the number of bytes and heads in the whole items so far.
+-- how many first bytes the path found last has of the path in hand before it, and the number of bytes and heads in the
+-- whole items so far.
 pub record ReaderState : Type 0 where
   pub feed : FeedState
   pub path : List ℕ
@@ -26,6 +27,7 @@ pub record ReaderState : Type 0 where
   pub flag : Bool
   pub stamp : Moment
   pub device : ℕ
+  pub shared : ℕ
   pub place : ℕ
   pub heads : ℕ
 
@@ -40,6 +42,7 @@ fresh_on f = record {
   flag = false;
   stamp = record { seconds = 0; nanos = 0 };
   device = 0;
+  shared = 0;
   place = 0;
   heads = 0;
 }

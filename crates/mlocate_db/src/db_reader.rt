@@ -53,6 +53,7 @@ pub struct DbReader {
     flag: bool,
     stamp: Stamp,
     device: u32,
+    shared: usize,
     place: u64,
     heads: u64,
 }
@@ -64,7 +65,7 @@ impl Model for DbReader {
 
     ghost Value = { ReaderState };
 
-    ghost view = { λ r. record { feed = r.feed; path = r.path; dir_len = r.dir_len; stage = r.stage; version = r.version; flag = r.flag; stamp = r.stamp; device = r.device; place = r.place; heads = r.heads } };
+    ghost view = { λ r. record { feed = r.feed; path = r.path; dir_len = r.dir_len; stage = r.stage; version = r.version; flag = r.flag; stamp = r.stamp; device = r.device; shared = r.shared; place = r.place; heads = r.heads } };
 
     ghost invariant = { λ r. (r.dir_len ≤ length r.path) × (r.heads ≤ r.place) × (r.place ≤ 2 ^ 40)
         × (is_done r.stage ≡ false → r.place ≡ r.feed.offset)
@@ -94,6 +95,7 @@ impl DbReader {
             flag: false,
             stamp: Stamp::zero(),
             device: 0,
+            shared: 0,
             place: 0,
             heads: 0,
         }
@@ -359,6 +361,8 @@ impl PathStream for DbReader {
 
     ghost found = { λ r. path_found r };
 
+    ghost shares = { λ r. r.shared };
+
     ghost stored = { λ r. r.place };
 
     ghost heads_read = { λ r. r.heads };
@@ -369,12 +373,20 @@ impl PathStream for DbReader {
 
     #[inline(always)]
     fn next_path<S: Source>(&mut self, src: &mut S) -> Result<bool, DbFault> {
+        let mut shared = if self.stage == Stage::Inside {
+            self.dir_len
+        } else {
+            0
+        };
         'steps: loop {
             match self.step(src) {
-                Ok(Step::Entry(_)) => return Ok(true),
+                Ok(Step::Entry(_)) => {
+                    self.shared = shared;
+                    return Ok(true);
+                }
                 Ok(Step::End) => return Ok(false),
-                Ok(Step::Directory) => {}
-                Ok(Step::EndDirectory) => {}
+                Ok(Step::Directory) => shared = 0,
+                Ok(Step::EndDirectory) => shared = 0,
                 Err(cause) => return Err(fault_at(self.place, cause)),
             }
         }
@@ -388,6 +400,11 @@ impl PathStream for DbReader {
     #[inline(always)]
     fn dir_len(&self) -> usize {
         self.dir_len
+    }
+
+    #[inline(always)]
+    fn shared(&self) -> usize {
+        self.shared
     }
 
     fn asks_gate(&self) -> bool {

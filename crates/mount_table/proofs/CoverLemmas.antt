@@ -1,16 +1,16 @@
 -- The row that decides for a path, and the rows before the last at a path.
 use Rattle.std.proofs.Common.{◌≡◌, ◌≢◌, ℕ, zero, suc, ◌+◌, ◌-◌, ◌<◌, ◌≤◌, max, List, [], ◌∷◌, ◌++◌, length, get_or, take, refl, sym, ◌∙◌, ap, arith, subst, Bool, true, false, not, cond, Some, None, Option, inl, inr, length-append, append_assoc}
 use Rattle.std.proofs.lemmas.Bool.{cases_Bool, false_from_ne_true, or_parts, or_from, and_parts, and_from, and_left, and_right, both_ways, eqb-true, eq-eqb, cases_lt, cases_eq, not_from_true, not_from_false}
-use Rattle.std.proofs.lemmas.List.{length-take-le, get_or_at, get_or-append_right}
+use Rattle.std.proofs.lemmas.List.{length-take-le, get_or_at, get_or-append_right, get_or-take}
 use Rattle.std.proofs.lemmas.List.Sums.{suffix_len_is}
 use Rattle.std.proofs.lemmas.Slice.Eq.{bytes_eq-Decides}
-use Rattle.std.specs.List.{filter, fold, list_any, last_or, before_last, suffix_len, AllByRecursion, All}
-use Rattle.std.specs.Option.{option_map_or}
-use Rattle.std.specs.Prelude.{◌&&◌, ◌==◌}
+use Rattle.std.specs.List.{filter, fold, list_any, last_or, before_last, suffix_len, All}
+use Rattle.std.specs.Option.{option_map_or, unwrap_or}
+use Rattle.std.specs.Prelude.{◌&&◌, ◌==◌, slice_get}
 use Rattle.path_order.specs.Path.{is_normal, begins_at_root}
-use Rattle.mount_table.specs.Index.{IsLastAt}
+use Rattle.mount_table.specs.Index.{IsLastAt, Tops, is_top}
 use Rattle.mount_table.specs.Lookup.{covers, covering_len, deciding, is_at, shows_elsewhere, is_bind}
-use Rattle.mount_table.specs.Part.{EndsPrefix}
+use Rattle.mount_table.specs.Part.{EndsPrefix, NoneLonger}
 use Rattle.mount_table.specs.Prefix.{is_path_prefix}
 use Rattle.mount_table.specs.Row.{MountRow}
 use Rattle.mount_table.proofs.PrefixLemmas.{IsFront, IsFront-from, is_path_prefix-take}
@@ -31,10 +31,6 @@ pub last_or-filter : {X : Type 0} (t : X → Bool) (before : List X) (x : X) (af
 last_or-filter t [] x after holds none o = rw holds (ap (last_or (Some x)) (filter-none t after none))
 last_or-filter t (y ∷ before) x after holds none o = last_kept (t y) o y (filter t (before ++ x ∷ after)) (Some x) (last_or-filter t before x after holds none)
 
--- a mount point that covers a path is not longer than this
-abbrev pub NoneLonger : List ℕ → ℕ → List MountRow → Type 0
-NoneLonger path len rows = AllByRecursion (λ row. covers path row ≡ true → length row.point ≤ len) rows
-
 -- what covers a path
 pub covers-front : (path : List ℕ) (row : MountRow) → covers path row ≡ true → IsFront row.point path × (is_normal row.point ≡ true)
 unfolding covers
@@ -48,6 +44,26 @@ not_nothing (x ∷ text) e = omega arith
 pub none_longer-path : (path : List ℕ) (rows : List MountRow) → NoneLonger path (length path) rows
 none_longer-path path [] = tt
 none_longer-path path (row ∷ rows) = (λ e. (covers-front path row e).0.within, none_longer-path path rows)
+
+is_top-same : (tops : List Bool) (a b : List ℕ) → get_or b 1 0 ≡ get_or a 1 0 → is_top tops a ≡ true → is_top tops b ≡ true
+is_top-same tops a b same top = subst (λ (k : ℕ). unwrap_or (slice_get tops k) false ≡ true) (sym same) top
+
+-- A path has the second byte of each longer mount point that covers it.
+same_second : (path : List ℕ) (row : MountRow) → covers path row ≡ true → 1 < length row.point → get_or path 1 0 ≡ get_or row.point 1 0
+same_second path row e long =
+    let front = (covers-front path row e).0 in
+    sym (ap (λ (l : List ℕ). get_or l 1 0) front.front ∙ get_or-take (length row.point) path 1 0 long)
+
+-- where the second byte is that of no mount point, none but the root covers the path
+pub none_longer-top : (tops : List Bool) (path : List ℕ) (rows : List MountRow) → Tops rows tops → is_top tops path ≡ false → NoneLonger path 1 rows
+none_longer-top tops path [] h other = tt
+none_longer-top tops path (row ∷ rows) h other = (
+  λ e. elim (cases_lt 1 (length row.point)) [
+    | inl long ↦ absurd (both_ways _ other (is_top-same tops row.point path (same_second path row e long) (h.0 long)))
+    | inr past ↦ past
+  ],
+  none_longer-top tops path rows h.1 other,
+)
 
 -- no prefix ends between two places
 abbrev pub NoneBetween : List ℕ → ℕ → ℕ → Type 0

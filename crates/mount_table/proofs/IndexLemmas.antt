@@ -1,6 +1,6 @@
 -- The index of a mount table, row after row.
-use Rattle.std.proofs.Common.{◌≡◌, ◌≢◌, ℕ, ◌+◌, ◌<◌, List, [], ◌∷◌, ◌++◌, length, get_or, set, take, Bool, refl, sym, ◌∙◌, ap, append_assoc, subst, true, false, Some, None, Option, inl, inr, Vec}
-use Rattle.std.proofs.lemmas.Bool.{cases_Bool, false_from_ne_true, or_from, or_parts, both_ways}
+use Rattle.std.proofs.Common.{◌≡◌, ◌≢◌, ℕ, ◌+◌, ◌<◌, ◌≤◌, arith, List, [], ◌∷◌, ◌++◌, length, get_or, set, take, Bool, refl, sym, ◌∙◌, ap, append_assoc, subst, true, false, Some, None, Option, inl, inr, Vec}
+use Rattle.std.proofs.lemmas.Bool.{cases_Bool, cases_eq, false_from_ne_true, or_from, or_parts, both_ways}
 use Rattle.std.proofs.lemmas.List.{take_more, get_or-set_same, get_or-set_other}
 use Rattle.std.proofs.lemmas.Option.{unwrap_or-slice_get}
 use Rattle.std.proofs.lemmas.Slice.Eq.{bytes_eq-Decides}
@@ -9,7 +9,7 @@ use Rattle.std.specs.List.{list_any}
 use Rattle.std.specs.Map.{KeepsOthers}
 use Rattle.std.specs.Prelude.{bytes_eq}
 use Rattle.path_order.specs.Path.{is_normal}
-use Rattle.mount_table.specs.Index.{place_in, Indexes, IsIndex, Marks, mark_place, is_marked}
+use Rattle.mount_table.specs.Index.{place_in, Indexes, IsIndex, Marks, Tops, mark_place, is_marked, is_top}
 use Rattle.mount_table.specs.Lookup.{is_at}
 use Rattle.mount_table.specs.Row.{MountRow}
 
@@ -102,3 +102,42 @@ Marks-more rows count row marks place within is here room h = λ path unmarked.
     let other : is_at path row ≡ false = false_from_ne_true _ (λ t. apart (ap mark_place (sym ((bytes_eq-Decides row.point path).0 t)) ∙ sym here)) in
     ap (λ (l : List MountRow). list_any (is_at path) l) (take_more rows count row within ∙ ap (λ (x : MountRow). take count rows ++ x ∷ []) (sym is))
     ∙ none_more (take count rows) row path (h path (sym (set_other marks place path apart) ∙ unmarked)) other
+
+top_set_here : (tops : List Bool) (place : ℕ) (path : List ℕ) → place < length tops → get_or path 1 0 ≡ place → is_top (set tops place true) path ≡ true
+top_set_here tops place path room is =
+    unwrap_or-slice_get (set tops place true) (get_or path 1 0) false
+    ∙ ap (λ (k : ℕ). get_or (set tops place true) k false) is
+    ∙ get_or-set_same tops place true false room
+
+-- what has a mark keeps it
+top_kept : (tops : List Bool) (place : ℕ) (path : List ℕ) → place < length tops → is_top tops path ≡ true → is_top (set tops place true) path ≡ true
+top_kept tops place path room top = elim (cases_eq (get_or path 1 0) place) [
+  | inl is ↦ top_set_here tops place path room is
+  | inr other ↦
+      unwrap_or-slice_get (set tops place true) (get_or path 1 0) false
+      ∙ get_or-set_other tops place (get_or path 1 0) true false other
+      ∙ sym (unwrap_or-slice_get tops (get_or path 1 0) false)
+      ∙ top
+]
+
+Tops-set : (rows : List MountRow) (tops : List Bool) (place : ℕ) → place < length tops → Tops rows tops → Tops rows (set tops place true)
+Tops-set [] tops place room h = tt
+Tops-set (row ∷ rows) tops place room h = (λ long. top_kept tops place row.point room (h.0 long), Tops-set rows tops place room h.1)
+
+Tops-push : (rows : List MountRow) (row : MountRow) (tops : List Bool) → Tops rows tops → (1 < length row.point → is_top tops row.point ≡ true) → Tops (rows ++ row ∷ []) tops
+Tops-push [] row tops h top = (top, tt)
+Tops-push (first ∷ rows) row tops h top = (h.0, Tops-push rows row tops h.1 top)
+
+-- the rows so far, and one more
+Tops-next : (rows : List MountRow) (count : ℕ) (row : MountRow) (tops : List Bool) → count < length rows → row ≡ get_or rows count row → Tops (take count rows) tops → (1 < length row.point → is_top tops row.point ≡ true) → Tops (take (count + 1) rows) tops
+Tops-next rows count row tops within is h top =
+    subst (λ (l : List MountRow). Tops l tops) (ap (λ (x : MountRow). take count rows ++ x ∷ []) is ∙ sym (take_more rows count row within)) (Tops-push (take count rows) row tops h top)
+
+-- the same, with its mark set
+pub Tops-marked : (rows : List MountRow) (count : ℕ) (row : MountRow) (tops : List Bool) (place : ℕ) → count < length rows → row ≡ get_or rows count row → place < length tops → get_or row.point 1 0 ≡ place → Tops (take count rows) tops → Tops (take (count + 1) rows) (set tops place true)
+Tops-marked rows count row tops place within is room top h =
+    Tops-next rows count row (set tops place true) within is (Tops-set (take count rows) tops place room h) (λ _. top_set_here tops place row.point room top)
+
+-- the same, where it has no second byte
+pub Tops-short : (rows : List MountRow) (count : ℕ) (row : MountRow) (tops : List Bool) → count < length rows → row ≡ get_or rows count row → length row.point ≤ 1 → Tops (take count rows) tops → Tops (take (count + 1) rows) tops
+Tops-short rows count row tops within is short h = Tops-next rows count row tops within is h (λ long. absurd (omega arith))

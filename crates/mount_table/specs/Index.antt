@@ -1,7 +1,7 @@
 -- The index of a mount table by mount points.
-use Rattle.std.specs.Prelude.{◌≡◌, ℕ, ◌+◌, ◌*◌, ◌-◌, ◌%◌, Bool, true, false, List, ◌∷◌, ◌++◌, length, bytes_eq, MatchOption, Option, Vec, slice_get, slice_index}
+use Rattle.std.specs.Prelude.{◌≡◌, ℕ, ◌+◌, ◌*◌, ◌-◌, ◌%◌, ◌<◌, Bool, true, false, List, ◌∷◌, ◌++◌, length, bytes_eq, MatchOption, Option, Vec, slice_get, slice_index}
 use Rattle.std.specs.HashMap.{HashMap, get_by}
-use Rattle.std.specs.List.{list_any}
+use Rattle.std.specs.List.{list_any, AllByRecursion}
 use Rattle.std.specs.Option.{unwrap_or}
 use Rattle.path_order.specs.Path.{is_normal}
 use Rattle.mount_table.specs.Lookup.{is_at}
@@ -41,3 +41,11 @@ is_marked marks path = unwrap_or (slice_get marks (mark_place path)) false
 -- no row is at a path without a mark
 abbrev pub Marks : List MountRow → List Bool → Type 0
 Marks rows marks = (path : List ℕ) → is_marked marks path ≡ false → list_any (is_at path) rows ≡ false
+
+-- whether a mark stands for the second byte of a path
+abbrev pub is_top : List Bool → List ℕ → Bool
+is_top tops path = unwrap_or (slice_get tops (slice_index path 1)) false
+
+-- a mark stands for the second byte of each mount point that has one
+abbrev pub Tops : List MountRow → List Bool → Type 0
+Tops rows tops = AllByRecursion (λ row. 1 < length row.point → is_top tops row.point ≡ true) rows

@@ -1,10 +1,11 @@
 //! A mount table, and what it tells of a path.
-ghost use Rattle.std.specs.Prelude.{◌≡◌, ◌↔◌, ◌<◌, [], IsTrue, IsNone, IfOk, All, false};
+ghost use Rattle.std.specs.Prelude.{◌≡◌, ◌↔◌, ◌<◌, ◌≤◌, [], IsTrue, IsNone, IfOk, All, false, length, slice_index};
 ghost use Rattle.std.specs.List.{list_any};
 ghost use Rattle.std.specs.Option.{option_copied};
 ghost use Rattle.path_order.specs.Path.{is_normal as normal};
-ghost use Rattle.mount_table.specs.Index.{IsIndex, Indexes, Marks, mark_place as place_of_mark, is_marked as marked};
+ghost use Rattle.mount_table.specs.Index.{IsIndex, Indexes, Marks, Tops, mark_place as place_of_mark, is_marked as marked, is_top as top_of};
 ghost use Rattle.mount_table.specs.Lookup.{covers, deciding, type_of, device_of, shows_elsewhere, is_bind};
+ghost use Rattle.mount_table.specs.Part.{EndsPrefix, NoneLonger};
 
 use crate::prefix::shorter_prefix;
 use crate::row::Row;
@@ -19,18 +20,19 @@ pub struct Mounts {
     rows: Vec<Row>,
     index: HashMap<Vec<u8>, usize>,
     marks: Vec<bool>,
+    tops: Vec<bool>,
 }
 
 impl Model for Mounts {
     ghost use Rattle.std.specs.Prelude.{List};
     ghost use Rattle.mount_table.specs.Row.{MountRow};
-    ghost use Rattle.mount_table.specs.Index.{IsIndex, Marks};
+    ghost use Rattle.mount_table.specs.Index.{IsIndex, Marks, Tops};
 
     ghost Value = { List MountRow };
 
     ghost view = { λ m. m.rows.items };
 
-    ghost invariant = { λ m. IsIndex m.rows.items m.index × Marks m.rows.items m.marks.items };
+    ghost invariant = { λ m. IsIndex m.rows.items m.index × Marks m.rows.items m.marks.items × Tops m.rows.items m.tops.items };
 }
 
 /// The places of the last rows at each normal mount point.
@@ -77,6 +79,37 @@ fn is_marked(marks: &[bool], path: &[u8]) -> bool
     marks.get(mark_place(path)).copied().unwrap_or(false)
 }
 
+/// The second byte of a path.
+fn second_byte(path: &[u8]) -> usize
+    requires { 1 < length path.now }
+    ensures value { result ≡ slice_index path.now 1 }
+    ensures within { result < 256 }
+{
+    usize::from(path[1])
+}
+
+/// Whether a mark stands for the second byte of a path.
+fn is_top(tops: &[bool], path: &[u8]) -> bool
+    requires { 1 < length path.now }
+    ensures { result ≡ top_of tops.now path.now }
+{
+    tops.get(second_byte(path)).copied().unwrap_or(false)
+}
+
+/// Marks the second bytes of the mount points.
+fn mark_tops(alloc: Global, rows: &[Row]) -> Result<Vec<bool>, AllocError>
+    ensures { IfOk result (λ tops. Tops rows.now tops.items) }
+{
+    let mut tops = vec![in alloc; false; 256]?;
+    for row in rows {
+        let point = row.point();
+        if point.len() > 1 {
+            tops[second_byte(point)] = true;
+        }
+    }
+    Ok(tops)
+}
+
 /// Whether an earlier row shows, at another path than this, what the row shows there.
 fn is_shown_elsewhere(row: &Row, path: &[u8], before: &[Row]) -> bool
     ensures { result ≡ list_any (shows_elsewhere path.now row.now) before.now }
@@ -93,6 +126,7 @@ impl Mounts {
             rows: Vec::new(alloc),
             index: HashMap::new(alloc),
             marks: Vec::new(alloc),
+            tops: Vec::new(alloc),
         }
     }
 
@@ -102,7 +136,13 @@ impl Mounts {
     {
         let index = index_rows(alloc, &rows)?;
         let marks = mark_rows(alloc, &rows)?;
-        Ok(Mounts { rows, index, marks })
+        let tops = mark_tops(alloc, &rows)?;
+        Ok(Mounts {
+            rows,
+            index,
+            marks,
+            tops,
+        })
     }
 
     /// The place of the last row at a normal path. Most paths without one have no mark and are not looked up.
@@ -115,13 +155,26 @@ impl Mounts {
         self.index.get(path).copied()
     }
 
+    /// The length of a front of a path, than which no mount point that covers it is longer: that of the root where no mount
+    /// point has the path's second byte.
+    fn longest_front(&self, path: &[u8]) -> usize
+        ensures within { result ≤ length path.now }
+        ensures prefix { 0 < result → EndsPrefix path.now result }
+        ensures none_longer { NoneLonger path.now result self.now }
+    {
+        if path.len() < 2 || is_top(&self.tops, path) {
+            return path.len();
+        }
+        1
+    }
+
     /// The row that decides for a path.
     fn deciding(&self, path: &[u8]) -> Option<&Row>
         requires { IsTrue (normal path.now) }
         ensures value { option_copied result ≡ deciding self.now path.now }
         ensures none { IsNone result ↔ All (λ row. covers path.now row ≡ false) self.now }
     {
-        let mut len = path.len();
+        let mut len = self.longest_front(path);
         while len > 0 {
             if let Some(place) = self.place_at(&path[..len]) {
                 return Some(&self.rows[place]);

@@ -89,6 +89,8 @@ impl PathStream for ReaderList {
 
     ghost found = { λ r. path_found r };
 
+    ghost shares = { λ r. 0 };
+
     ghost stored = { λ r. r.place };
 
     ghost heads_read = { λ r. 0 };
@@ -120,6 +122,10 @@ impl PathStream for ReaderList {
 
     fn dir_len(&self) -> usize {
         base_start(self.path.bytes())
+    }
+
+    fn shared(&self) -> usize {
+        0
     }
 
     fn asks_gate(&self) -> bool {

@@ -1,5 +1,5 @@
 //! A path of a stream.
-ghost use Rattle.std.specs.Prelude.{◌≡◌, ◌+◌, ◌≤◌, ◌<◌, ◌^◌, ◌++◌, [], length, true, false, Ok, IsTrue};
+ghost use Rattle.std.specs.Prelude.{◌≡◌, ◌≢◌, ◌+◌, ◌≤◌, ◌<◌, ◌^◌, ◌++◌, [], length, take, slice_index, true, false, Ok, IsTrue, IfSome, All};
 ghost use Rattle.loc_outside.specs.Causes.{Rose};
 ghost use Rattle.byte_feed.specs.Calls.{is_found};
 ghost use Rattle.byte_feed.specs.Feed.{reach, Draws};
@@ -9,7 +9,7 @@ ghost use Rattle.path_list.specs.Streams.{PathKnown};
 
 use byte_feed::{Break, DamageCause, Feed, FeedFault, Stop};
 use loc_outside::Source;
-use memchr::memchr2;
+use memchr::memchr;
 use path_order::PathBuf;
 
 /// Puts the next path in place of the one before; false where the file has ended.
@@ -40,6 +40,32 @@ pub(crate) fn read_path<S: Source>(
     read_long_path(feed, src, mark, path)
 }
 
+/// Whether a text without the mark has no zero byte.
+#[inline(always)]
+fn is_plain(mark: u8, text: &[u8]) -> bool
+    requires { All (λ b. b ≢ mark) text.now }
+    ensures { IsTrue result → All (λ b. 0 < b) text.now }
+{
+    mark == 0 || memchr(0, text).is_none()
+}
+
+/// The length of the text before the first mark, where that has no zero byte. One search for either byte would take longer
+/// than two: the library's search for two bytes is slow over short texts.
+#[inline(always)]
+fn len_before(mark: u8, bytes: &[u8]) -> Option<usize>
+    ensures mark { IfSome result (λ n. (n < length bytes.now) × (slice_index bytes.now n ≡ mark)) }
+    ensures bare { IfSome result (λ n. All (λ b. b ≢ mark) (take n bytes.now)) }
+    ensures plain { IfSome result (λ n. All (λ b. 0 < b) (take n bytes.now)) }
+{
+    let Some(len) = memchr(mark, bytes) else {
+        return None;
+    };
+    if is_plain(mark, &bytes[..len]) {
+        return Some(len);
+    }
+    None
+}
+
 /// Appends a path that is held with its mark, and hands both out. Where no such path is held, nothing changes.
 #[inline(always)]
 fn take_held(feed: &mut Feed, mark: u8, path: &mut PathBuf) -> bool
@@ -52,10 +78,10 @@ fn take_held(feed: &mut Feed, mark: u8, path: &mut PathBuf) -> bool
     ensures most { length feed.new.held ≤ 4096 }
 {
     let held = feed.held();
-    let Some(len) = memchr2(mark, 0, held) else {
+    let Some(len) = len_before(mark, held) else {
         return false;
     };
-    if len == 0 || held[len] != mark {
+    if len == 0 {
         return false;
     }
     if path.append(&held[..len]).is_err() {

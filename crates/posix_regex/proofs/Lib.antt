@@ -3,6 +3,7 @@ pub mod Finds
 pub mod Found
 pub mod Fragments
 pub mod Inserted
+pub mod Leavings
 pub mod Literals
 pub mod Marks
 pub mod Members

@@ -1,15 +1,18 @@
 -- What a table of sets tells of a text.
-use Rattle.std.proofs.Common.{◌≡◌, ◌⊎◌, ◌↔◌, ℕ, zero, suc, ◌+◌, ◌<◌, ◌≤◌, ◌*◌, ◌%◌, ◌^◌, ◌==◌, ◌||◌, w64, Bool, true, false, not, List, [], ◌∷◌, ◌++◌, length, slice_get, slice_index, Contains, Option, Some, None, refl, sym, ap, ◌∙◌, subst, inl, inr, ⊎_elim, arith}
+use Rattle.std.proofs.Common.{◌≡◌, ◌⊎◌, ◌↔◌, ℕ, zero, suc, ◌+◌, ◌-◌, ◌<◌, ◌≤◌, ◌*◌, ◌%◌, ◌^◌, ◌==◌, ◌||◌, w64, Bool, true, false, not, List, [], ◌∷◌, ◌++◌, length, get_or, slice_get, slice_index, Contains, Option, Some, None, refl, sym, ap, ◌∙◌, subst, inl, inr, ⊎_elim, arith}
 use Rattle.std.specs.Prelude.{⊤, is_some}
 use Rattle.std.specs.Int.Bits.{bit_or}
 use Rattle.std.proofs.lemmas.Bool.{false≢true, eq-eqb, ne_eqb, eqb-true, cases_eq, or_right}
-use Rattle.std.proofs.lemmas.Option.{slice_get_within}
+use Rattle.std.proofs.lemmas.Option.{slice_get_within, slice_get-get_or}
 use Rattle.std.proofs.lemmas.Nat.Bits.{bit_at-zero, bit_at_set_same, bit_at_set_other}
 use Rattle.byte_class.proofs.Members.{members_pass}
+use Rattle.posix_regex.specs.declared.leaving.Leaving.TheVariants.{Nothing}
 use Rattle.posix_regex.specs.declared.row.Row.{Row}
 use Rattle.posix_regex.specs.Program.{Item, Takes, AtStart, AtEnd, Fork, Back, Skip}
 use Rattle.posix_regex.specs.Moves.{Leads, Reached, ReachesEnd, Silent}
 use Rattle.posix_regex.specs.Table.{has_state, states_of, Begins, Passes, Stepped, Follows, Closes, Ends, Entry, IsRow, IsMade, Grown, AreRows, IsTable}
+use Rattle.posix_regex.specs.Leaving.{leaves}
+use Rattle.posix_regex.proofs.Leavings.{stays}
 use Rattle.posix_regex.proofs.Searching.{Waiting, Spread, waiting_next, waiting_done, still_reached, next_reached}
 use Rattle.posix_regex.proofs.Starts.{begun_anywhere}
 
@@ -135,6 +138,7 @@ made_grown items old new number row grown h = (
   record {
     entries = λ byte fits. entry_grown items old new (number == 0) byte h.0 (slice_index row.next byte) grown (h.2.entries byte fits);
     ends = h.2.ends;
+    leaving = h.2.leaving;
   },
 )
 
@@ -187,12 +191,16 @@ abbrev number_in : Option ℕ → ℕ
 number_in None = 0
 number_in (Some x) = x
 
+-- the row with a number
+abbrev pub row_at : List Row → ℕ → Row
+row_at rows number = get_or rows number (record { next = []; end = false; leaving = Nothing })
+
 -- before the search by a table looks at a place, it stands at a set that has the states there
 pub record Stands (items : List Item) (rows : List Row) (text : List ℕ) (number at : ℕ) : Type 0 where
   pub sets : List ℕ
   pub enough : length sets ≤ length rows
   pub made : AreRows items sets rows
-  pub low : number < 256
+  pub low : number < 128
   pub set : ℕ
   pub is : slice_get sets number ≡ Some set
   pub kind : ((number == 0) ≡ true) ↔ (at ≡ 0)
@@ -224,6 +232,9 @@ module _ (items : List Item) (rows : List Row) (text : List ℕ) (number at : �
   pub stands_inside : number < length rows
   stands_inside = omega (arith, s.enough, slice_get_within s.sets number s.set s.is)
 
+  pub stands_row : slice_get rows number ≡ Some (row_at rows number)
+  stands_row = slice_get-get_or rows number (record { next = []; end = false; leaving = Nothing }) stands_inside
+
   module _ (row : Row) (here : slice_get rows number ≡ Some row) where
     pub row_is : IsRow items s.sets number s.set row
     row_is = let m = s.made number row here in subst (λ x. IsRow items s.sets number x row) (ap number_in (sym m.1 ∙ s.is)) m.2
@@ -245,7 +256,7 @@ module _ (items : List Item) (rows : List Row) (text : List ℕ) (number at : �
             sets = s.sets;
             enough = s.enough;
             made = s.made;
-            low = omega (arith, h.1);
+            low = h.1;
             set = h.2.0;
             is = h.2.1;
             kind = (λ e. absurd (omega (arith, h.0, eqb-true (slice_index row.next (slice_index text at)) 0 e)), λ e. absurd (omega (arith, e)));
@@ -253,7 +264,25 @@ module _ (items : List Item) (rows : List Row) (text : List ℕ) (number at : �
           })
           entry_is
 
+      pub stands_kept : leaves row.leaving (slice_index text at) ≡ false → Stands items rows text number (at + 1)
+      stands_kept kept =
+          let same : slice_index row.next (slice_index text at) ≡ number = stays row.next number (slice_index text at) row.leaving row_is.leaving fits kept in
+          subst (λ n. Stands items rows text n (at + 1)) same (stands_next (λ e. omega (arith, same, e, s.low)))
+
     pub stands_end : at ≡ length text → ((row.end ≡ true) ↔ ReachesEnd items text)
     stands_end last = closes_says items text s.set row.end
         (subst (Waiting Always items text (states_of s.set)) last s.waiting)
         (row_is.ends text (λ e. sym last ∙ s.kind.0 e, λ e. s.kind.1 (last ∙ e)))
+
+-- over bytes that do not lead elsewhere the search stands at the same set
+module _ (items : List Item) (rows : List Row) (text : List ℕ) (number : ℕ) (row : Row) (here : slice_get rows number ≡ Some row) (fit : (k : ℕ) → slice_index text k < 256) (at : ℕ) (s : Stands items rows text number at) where
+  stands_far : (n to : ℕ) → at + n ≡ to → to ≤ length text → ((k : ℕ) → at ≤ k → k < to → leaves row.leaving (slice_index text k) ≡ false) → Stands items rows text number to
+  stands_far zero to is within kept = let same : at ≡ to = omega arith in subst (λ k. Stands items rows text number k) same s
+  stands_far (suc n) to is within kept =
+      let before : Stands items rows text number (at + n) = stands_far n (at + n) refl (omega arith) (λ k low high. kept k low (omega arith)) in
+      let same : at + n + 1 ≡ to = omega arith in
+      subst (λ k. Stands items rows text number k) same
+      (stands_kept items rows text number (at + n) before row here (omega arith) (fit (at + n)) (kept (at + n) (omega arith) (omega arith)))
+
+  pub stands_on : (to : ℕ) → at ≤ to → to ≤ length text → ((k : ℕ) → at ≤ k → k < to → leaves row.leaving (slice_index text k) ≡ false) → Stands items rows text number to
+  stands_on to from within kept = stands_far (to - at) to (omega arith) within kept

@@ -5,6 +5,7 @@ pub mod First
 pub mod Fragment
 pub mod Interval
 pub mod Lead
+pub mod Leaving
 pub mod Lex
 pub mod Literal
 pub mod Moves

@@ -3,6 +3,7 @@ use Rattle.std.specs.Prelude.{◌≡◌, ◌⊎◌, ◌↔◌, ℕ, ◌+◌, ◌
 use Rattle.std.specs.Int.{bit_at}
 use Rattle.byte_class.specs.ByteSet.{members}
 use Rattle.posix_regex.specs.declared.row.Row.{Row}
+use Rattle.posix_regex.specs.Leaving.{few, elsewhere}
 use Rattle.posix_regex.specs.Program.{Item}
 use Rattle.posix_regex.specs.Moves.{Leads, Still}
 
@@ -58,6 +59,7 @@ Entry items sets first byte set entry =
 pub record IsRow (items : List Item) (sets : List ℕ) (number set : ℕ) (row : Row) : Type 0 where
   pub entries : (byte : ℕ) → byte < 256 → Entry items sets (number == 0) byte set (slice_index row.next byte)
   pub ends : Ends items (number == 0) set row.end
+  pub leaving : row.leaving ≡ few (elsewhere row.next number)
 
 -- the sets that an earlier list has stand at their numbers
 abbrev pub Grown : List ℕ → List ℕ → Type 0

@@ -7,6 +7,7 @@ mod first;
 mod fragment;
 mod interval;
 pub mod laws;
+mod leaving;
 mod lex;
 mod literal;
 mod pattern;

@@ -234,7 +234,7 @@ fn row<L: Ledger>(
             Some(next_entry) => entries[byte] = next_entry,
         }
     }
-    Ok(Some(Row::new(entries, end)))
+    Ok(Some(Row::new(number as u8, entries, end)))
 }
 
 /// The rows of a table, none where there is no room for a set more. It counts steps of its own.
@@ -300,12 +300,14 @@ pub(crate) fn search_by<L: Ledger>(
     ensures bound { steps.new ≤ steps.old + length text.now }
 {
     let mut number = 0;
-    for at in 0..text.len() {
+    let mut at = 0;
+    while at < text.len() {
         let entry = rows[number].after(text[at], steps);
         if entry == FOUND {
             return true;
         }
         number = entry as usize;
+        at = rows[number].next_place(text, at + 1);
     }
     rows[number].ends()
 }

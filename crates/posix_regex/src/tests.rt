@@ -389,6 +389,73 @@ fn finds_both_ways(alloc: Global, row: &str) -> Result<bool, AllocError> {
     Ok(found == (answer == "y") && widely == found)
 }
 
+// The same, where none, one, two, three or more bytes lead from a set elsewhere.
+const SKIPS: &str = r"y ^[^aeiou]*$ xyz
+n ^[^aeiou]*$ xyza
+n ^[^aeiou]*$ axyzxxxxxxxxxxxxxxxxxxxxxxxxxxxxxxxxxxxxxxxx
+y ^[^aeiou]*$ -
+n ^a baaa
+y ^.*$ abc
+n ^a.*b$ baab
+y a$ bbba
+n a$ bbbab
+y a$ xxxxxxxxxxxxxxxxxxxxxxxxxxxxxxxxxxxxxxxxa
+n \.(jpg|png|gif)$ xxxxxxxxxxxxxxxxxxxxxxxxxxxxxxxxxxxxxxxx
+y \.(jpg|png|gif)$ /b.c/d.jpg
+y \.(jpg|png|gif)$ ..gif
+y \.(jpg|png|gif)$ xxxxxxxxxxxxxxxxxxxxxxxxxxxxxxxxxxxxxxxx.png
+n \.(jpg|png|gif)$ xxxxxxxxxxxxxxxxxxxxxxxxxxxxxxxxxxxxxxxx.pngx
+n \.(jpg|png|gif)$ jpg
+n \.(jpg|png|gif)$ -
+y ^/[^/]*$ /abc
+n ^/[^/]*$ /abc/d
+y a.*b.*c xaxxbxxxxxxxxxxxxxxxxxxxxxxxxxxxxxxxxxxxxxxxxc
+n a.*b.*c xaxxcxxxxxxxxxxxxxxxxxxxxxxxxxxxxxxxxxxxxxxxxb
+y needle|zzqqzz needle
+y needle|zzqqzz xnneedlex
+y needle|zzqqzz xneezzzqqzz
+n needle|zzqqzz needlzzqqz
+y needle|zzqqzz xxxxxxxxxxxxxxxxxxxxxxxxxxxxxxxxxxxxxxxxneedle
+n needle|zzqqzz xxxxxxxxxxxxxxxxxxxxxxxxxxxxxxxxxxxxxxxxneedl
+y a[^/]*b xaxxxxxxxxxxxxxxxxxxxxxxxxxxxxxxxxxxxxxxxxb
+n a[^/]*b xaxxxxxxxxxxxxxxxxxxxxxxxxxxxxxxxxxxxxxxxx/b
+y a[^/]*b xa/aab
+y ax|by|cz ax
+y ax|by|cz xxxxxxxxxxxxxxxxxxxxxxxxxxxxxxxxxxxxxxxxcz
+y ax|by|cz xxxxxxxxxxxxxxxxxxxxxxxxxxxxxxxxxxxxxxxxcabyxxxxxxxxxxxxxxxxxxxxxxxxxxxxxxxxxxxxxxxx
+n ax|by|cz xxxxxxxxxxxxxxxxxxxxxxxxxxxxxxxxxxxxxxxxabcaybz
+y (^|x)ab|cd abx
+y (^|y)ab|cd xxxxxxxxxxxxxxxxxxxxxxxxxxxxxxxxxxxxxxxxyab
+n (^|y)ab|cd xxxxxxxxxxxxxxxxxxxxxxxxxxxxxxxxxxxxxxxxab
+y [a-d]y xxxxxxxxxxxxxxxxxxxxxxxxxxxxxxxxxxxxxxxxdy
+n [a-d]y xxxxxxxxxxxxxxxxxxxxxxxxxxxxxxxxxxxxxxxxdxxxxxxxxxxxxxxxxxxxxxxxxxxxxxxxxxxxxxxxxy
+y b|c$|^d xxxxxxxxxxxxxxxxxxxxxxxxxxxxxxxxxxxxxxxxc
+n b|c$|^d xxxxxxxxxxxxxxxxxxxxxxxxxxxxxxxxxxxxxxxxd
+y ^b|^$|c -";
+
+// With 64 states more nothing is passed over, and the same is found in these texts.
+#[test]
+fn skips_find_what_states_find(rt: HostRuntime) -> Result<(), Fail> {
+    let alloc = rt.alloc();
+    for row in SKIPS.lines() {
+        assert!(rt; finds_both_ways(alloc, row)?, "{row}");
+    }
+    Ok(())
+}
+
+#[test]
+fn skips_see_every_byte(rt: HostRuntime) -> Result<(), Fail> {
+    let alloc = rt.alloc();
+    assert!(rt; finds(alloc, b"\xFF$", b"bbb\n\xFF", true, false));
+    assert!(rt; !finds(alloc, b"\xFF$", b"bbb\xFF\n", true, false));
+    assert!(rt; finds(alloc, b"\ny|\0z", b"bb\0\nbb\0z", true, false));
+    assert!(rt; !finds(alloc, b"\ny|\0z", b"bb\0\nbb\0y", true, false));
+    assert!(rt; finds(alloc, b"a[^\xFF\n]*b", b"xa\n\xFFa\0b", true, false));
+    assert!(rt; !finds(alloc, b"a[^\xFF\n]*b", b"xa\0\nb\xFFb", true, false));
+    assert!(rt; !finds(alloc, b"^[^\n]*$", b"aaa\nb", true, false));
+    Ok(())
+}
+
 #[test]
 fn newlines_and_bytes_are_as_others(rt: HostRuntime) -> Result<(), Fail> {
     let alloc = rt.alloc();

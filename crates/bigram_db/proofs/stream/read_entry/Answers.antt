@@ -8,6 +8,7 @@ use Rattle.byte_feed.specs.declared.damage.Stop.{Stop}
 use Rattle.byte_feed.specs.declared.damage.Break.{Break}
 use Rattle.byte_feed.specs.Feed.{FeedState}
 use Rattle.byte_feed.proofs.Draws.{draws_then}
+use Rattle.byte_feed.specs.Calls.{Shares}
 use Rattle.byte_feed.specs.Field.{max_path}
 use Rattle.bigram_db.specs.Items.{is_in_range, shared_within}
 use Rattle.bigram_db.specs.Entries.{UnitsKnown}
@@ -32,6 +33,13 @@ path_parts path cut new shared is begins = sym (take-append-drop (length cut) ne
 
 parts_len : (path cut new : List ℕ) (shared : ℕ) → length cut ≡ shared → cut ≡ take shared path → take (length cut) new ≡ cut → length new ≡ shared + length (drop (length cut) new)
 parts_len path cut new shared len is begins = omega (arith, ap length (path_parts path cut new shared is begins), length-append (take shared path) (drop (length cut) new), ap length is, len)
+
+-- what stands before a path's rest is what was left of the path before
+shares_cut : (path cut new : List ℕ) (shared : ℕ) → length cut ≡ shared → cut ≡ take shared path → take (length cut) new ≡ cut → Shares shared path new
+shares_cut path cut new shared len is begins = record {
+  within = omega (arith, parts_len path cut new shared len is begins);
+  same = subst (λ (n : ℕ). take n new ≡ cut) len begins ∙ is;
+}
 
 empty_len : (bytes path : List ℕ) (b : Bool) → bytes ≡ path → b ≡ eqb (length bytes) 0 → b ≡ true → length path ≡ 0
 empty_len bytes path b same is e = ap length (sym same) ∙ eqb-true (length bytes) 0 (sym is ∙ e)
@@ -85,6 +93,15 @@ returns-clause-entry g c =
     (units_at_shared c.args.table.now cut text shared _ _ _ _ (Ok tt) len u.units)
     (path_parts c.args.path.now cut new shared c.cut.ensures u.begins)
     (omega (arith, some, parts_len c.args.path.now cut new shared len c.cut.ensures u.begins))
+
+pub returns-clause-shares : goal.returns-clause-shares
+returns-clause-shares g c =
+    let shared = c.in-Ok-shared_after.shared in
+    let cut = c.cut.new.self in
+    let new = c.read_units.new.path in
+    let u = c.in-Ok-read_units.ensures in
+    let len = cut_len c.args.path.now cut c.bytes-len.result.now shared c.cut.ensures c.bytes-len.ensures.value c.in-Ok-shared_after.ensures.within in
+    shares_cut c.args.path.now cut new shared len c.cut.ensures u.begins
 
 pub returns-in-Err-read_units-clause-drawn : goal.returns-in-Err-read_units-clause-drawn
 returns-in-Err-read_units-clause-drawn g c = draws_then _ _ _ _ _ _ _ _ _ c.in-Ok.ensures.drawn c.in-Err-read_units.ensures.drawn

@@ -1,10 +1,6 @@
-use Rattle.std.proofs.Common.{◌≡◌, ◌≢◌, ℕ, ◌+◌, ◌<◌, ◌≤◌, Bool, true, false, Some, Result, Ok, Err, List, ◌∷◌, [], ◌++◌, length, take, drop, get_or, refl, sym, ap, ◌∙◌, append_assoc, length-take, arith}
-use Rattle.std.specs.Prelude.{◌||◌}
+use Rattle.std.proofs.Common.{◌≡◌, ◌≢◌, ℕ, ◌+◌, ◌<◌, ◌≤◌, Bool, true, false, All, Result, Ok, Err, List, ◌∷◌, [], ◌++◌, length, take, drop, get_or, refl, sym, ap, ◌∙◌, append_assoc, length-take, arith}
 use Rattle.std.specs.Result.{is_err, IsOk, OnOk}
-use Rattle.std.proofs.lemmas.Bool.{eq-eqb}
-use Rattle.std.proofs.lemmas.List.{take-append-drop, drop_more, get_or-take}
-use Rattle.std.proofs.lemmas.List.Elements.{All-from_get_or}
-use Rattle.memchr.specs.Find.{IsFirstByte, is_byte2}
+use Rattle.std.proofs.lemmas.List.{take-append-drop, drop_more}
 use Rattle.path_list.specs.Items.{IsListed, marked}
 use Rattle.path_list.proofs.stream.take_held.Goals as goal
 
@@ -14,28 +10,12 @@ held_parts held n mark lt there =
     ∙ ap (λ (l : List ℕ). take n held ++ l) (drop_more held n 0 lt ∙ ap (λ (b : ℕ). b ∷ drop (n + 1) held) there)
     ∙ sym (append_assoc (take n held) (mark ∷ []) (drop (n + 1) held))
 
-or_left : (a b : Bool) → a ≡ true → (a || b) ≡ true
-or_left a b e = rw e refl
-
-or_right : (a b : Bool) → b ≡ true → (a || b) ≡ true
-or_right true b e = refl
-or_right false b e = e
-
-held_listed : (held : List ℕ) (n mark : ℕ) → IsFirstByte (is_byte2 mark 0) held (Some n) → 0 < n → n ≤ 4096 → IsListed mark (take n held)
-held_listed held n mark first some fits =
-    let len : length (take n held) ≡ n = omega (arith, length-take n held, first.0.high) in
+held_listed : (held : List ℕ) (n mark : ℕ) → n < length held → All (λ b. b ≢ mark) (take n held) → All (λ b. 0 < b) (take n held) → 0 < n → n ≤ 4096 → IsListed mark (take n held)
+held_listed held n mark lt bare plain some fits =
+    let len : length (take n held) ≡ n = omega (arith, length-take n held, lt) in
     record {
-      is_path = record {
-        some = omega (arith, len, some);
-        fits = omega (arith, len, fits);
-        plain = All-from_get_or (λ b. 0 < b) (take n held) 0 (λ i lt.
-            let below : i < n = omega (arith, lt, len) in
-            let apart : get_or held i 0 ≡ 0 → ⊥ = λ z. first.0.before i (omega arith) below (or_right _ _ (eq-eqb _ _ z)) in
-            rw (get_or-take n held i 0 below) (omega arith));
-      };
-      bare = All-from_get_or (λ b. b ≢ mark) (take n held) 0 (λ i lt z.
-          let below : i < n = omega (arith, lt, len) in
-          first.0.before i (omega arith) below (or_left _ _ (eq-eqb _ _ (sym (get_or-take n held i 0 below) ∙ z))));
+      is_path = record { some = omega (arith, len, some); fits = omega (arith, len, fits); plain = plain };
+      bare = bare;
     }
 
 from_ok : {A E : Type 0} (r : Result A E) (b : Bool) (P : Type 0) → b ≡ false → b ≡ is_err r → OnOk r P → P
@@ -50,13 +30,13 @@ pub returns-clause-took : goal.returns-clause-took
 returns-clause-took c _ =
     let n = c.in-Some.len in
     let held = c.held-held.result.now in
-    let first = c.in-Some.ensures in
+    let e = c.in-Some.ensures in
     let fits : length c.args.path.now + length (take n held) ≤ 4096 = c.append.ensures.variant.0 (is_ok_from c.append.result _ c.if-is_err.false c.is_err.ensures.value) in
     let made : c.append.new.self ≡ c.args.path.now ++ take n held = from_ok c.append.result _ _ c.if-is_err.false c.is_err.ensures.value c.append.ensures.ok in
     let is : c.append.new.self ≡ take n held = made ∙ ap (λ (p : List ℕ). p ++ take n held) c.requires in
     let same : c.args.feed.now.held ≡ held = sym c.held-held.ensures.value in
     let rest : c.pass.new.self.held ≡ drop (n + 1) held = c.pass.ensures.held ∙ ap (drop (n + 1)) same in
     rw (is, same, rest) (
-      held_listed held n c.args.mark first (omega (arith, c.if-len-eq0.false)) (omega (arith, fits, length-take n held, first.0.high)),
-      held_parts held n c.args.mark first.0.high c.if-held-len.false,
+      held_listed held n c.args.mark e.mark.0 e.bare e.plain (omega (arith, c.if-len-eq0.false)) (omega (arith, fits, length-take n held, e.mark.0)),
+      held_parts held n c.args.mark e.mark.0 e.mark.1,
     )

@@ -48,5 +48,6 @@ returns-clause-value g c =
         entries = λ b fits. subst (λ l. Entry c.args.states.now c.loop-byte.sets.items (c.args.number == 0) b set (get_or l b 0)) (sym c.new.ensures.next)
             (inv.entries b (omega (arith, c.loop-byte-test.false, c.loop-byte.auto.byte-end, fits)));
         ends = subst (λ x. Ends c.args.states.now (c.args.number == 0) set x) (sym c.new.ensures.end) c.ends-end.ensures.value;
+        leaving = rw c.new.ensures.next c.new.ensures.leaving;
       },
     )

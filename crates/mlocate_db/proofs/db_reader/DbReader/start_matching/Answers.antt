@@ -7,7 +7,7 @@ use Rattle.mlocate_db.proofs.db_reader.DbReader.start_matching.Goals as goal
 pub returns-in-Ok-clause-header : goal.returns-in-Ok-clause-header
 returns-in-Ok-clause-header g c =
     let s = c.self.inside in
-    let r : ReaderState = record { feed = s.feed; path = s.path; dir_len = s.dir_len; stage = s.stage; version = s.version; flag = s.flag; stamp = s.stamp; device = s.device; place = s.place; heads = s.heads } in
+    let r : ReaderState = record { feed = s.feed; path = s.path; dir_len = s.dir_len; stage = s.stage; version = s.version; flag = s.flag; stamp = s.stamp; device = s.device; shared = s.shared; place = s.place; heads = s.heads } in
     let stage : s.stage ≡ stages.Fresh = fresh_stage s.stage (rw (← c.self.view_is) at c.requires) in
     let at = c.self.invariant.3 (ap is_done stage) in
     rw (← c.self.view_is) (started r _ _ _ c.in-Ok.fixed _ _ c.in-Ok.same c.is_same.result stage refl at c.offset-self-inside.ensures.value refl refl (rw c.bytes.ensures.value at c.is_same.ensures) c.in-Ok.ensures.header)
@@ -15,7 +15,7 @@ returns-in-Ok-clause-header g c =
 pub returns-in-Err-clause-header : goal.returns-in-Err-clause-header
 returns-in-Err-clause-header g c =
     let s = c.self.inside in
-    let r : ReaderState = record { feed = s.feed; path = s.path; dir_len = s.dir_len; stage = s.stage; version = s.version; flag = s.flag; stamp = s.stamp; device = s.device; place = s.place; heads = s.heads } in
+    let r : ReaderState = record { feed = s.feed; path = s.path; dir_len = s.dir_len; stage = s.stage; version = s.version; flag = s.flag; stamp = s.stamp; device = s.device; shared = s.shared; place = s.place; heads = s.heads } in
     let stage : s.stage ≡ stages.Fresh = fresh_stage s.stage (rw (← c.self.view_is) at c.requires) in
     let at = c.self.invariant.3 (ap is_done stage) in
     let n = c.read_header.new in

@@ -1,12 +1,13 @@
-use Rattle.std.proofs.Common.{◌≡◌, ℕ, ◌≤◌, List, length, get_or, take, Some, false, inl, refl, sym, ◌∙◌, ap, arith, subst}
+use Rattle.std.proofs.Common.{◌≡◌, ℕ, ◌≤◌, List, length, get_or, take, Some, false, refl, sym, ◌∙◌, ap, arith, subst}
 use Rattle.std.specs.List.{list_any}
 use Rattle.mount_table.specs.Lookup.{covers}
+use Rattle.mount_table.specs.Part.{NoneLonger}
 use Rattle.mount_table.specs.Row.{MountRow}
-use Rattle.mount_table.proofs.CoverLemmas.{NoneLonger, none_longer-path, none_longer-next, none_covers, deciding-at, deciding-none, place_within, row_at, not_all, all_none, normal_begins}
+use Rattle.mount_table.proofs.CoverLemmas.{none_longer-next, none_covers, deciding-at, deciding-none, place_within, row_at, not_all, all_none, normal_begins}
 use Rattle.mount_table.proofs.table.Mounts.deciding.Goals as goal
 
 pub loop-len-init : goal.loop-len-init
-loop-len-init c = (omega arith, none_longer-path c.args.path.now c.args.self.now, λ _. inl refl)
+loop-len-init c = let e = c.longest_front-len.ensures in (e.within, e.none_longer, e.prefix)
 
 pub index-requires : goal.index-requires
 index-requires c =

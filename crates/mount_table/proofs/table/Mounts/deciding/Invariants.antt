@@ -1,6 +1,5 @@
 use Rattle.std.proofs.Common.{◌<◌, ◌≤◌, length}
-use Rattle.mount_table.specs.Part.{EndsPrefix}
-use Rattle.mount_table.proofs.CoverLemmas.{NoneLonger}
+use Rattle.mount_table.specs.Part.{EndsPrefix, NoneLonger}
 use Rattle.mount_table.proofs.table.Mounts.deciding.Given as goal
 
 abbrev pub invariant-loop-len : goal.invariant-loop-len

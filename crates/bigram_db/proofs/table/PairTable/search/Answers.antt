@@ -1,7 +1,7 @@
 use Rattle.std.proofs.Common.{arith}
 use Rattle.std.proofs.lemmas.Iterator.Adapters.{position_from-zero}
 use Rattle.bigram_db.specs.Pairs.{pairs_of, is_same}
-use Rattle.bigram_db.proofs.table.PairTable.number_of.Goals as goal
+use Rattle.bigram_db.proofs.table.PairTable.search.Goals as goal
 
 pub pairs-init : goal.pairs-init
 pairs-init c = record {

@@ -1,7 +1,7 @@
 use Rattle.std.proofs.Common.{◌≡◌, ◌+◌, ◌*◌, length}
 use Rattle.std.specs.List.{position, position_from}
 use Rattle.bigram_db.specs.Pairs.{pairs_of, is_same}
-use Rattle.bigram_db.proofs.table.PairTable.number_of.Given as goal
+use Rattle.bigram_db.proofs.table.PairTable.search.Given as goal
 
 abbrev pub invariant-pairs : goal.invariant-pairs
 invariant-pairs l = record {
