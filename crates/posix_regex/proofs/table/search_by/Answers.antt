@@ -53,7 +53,7 @@ loop-at-preserved g c =
     let entry = c.after-entry.result in
     let st = c.loop-at.invariant.stands in
     let next : Stands items rows text entry (at + 1) = subst (λ n. Stands items rows text n (at + 1)) (sym c.after-entry.ensures.value)
-        (stands_next items rows text number at st (row_at rows number) (stands_row items rows text number at st) c.loop-at-test.true (omega (arith, c.type_inv.text)) (λ e. c.if-entry.false (c.after-entry.ensures.value ∙ e))) in
+    (stands_next items rows text number at st (row_at rows number) (stands_row items rows text number at st) c.loop-at-test.true (omega (arith, c.type_inv.text)) (λ e. c.if-entry.false (c.after-entry.ensures.value ∙ e))) in
     let e = c.next_place-at.ensures in
     record {
       within = e.within;

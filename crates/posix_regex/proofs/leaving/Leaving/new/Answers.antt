@@ -14,7 +14,7 @@ loop-byte-preserved c =
     let number = c.args.number in
     let test : ℕ → Bool = λ b. not (slice_index next b == number) in
     elim c.if-next-byte.branch [
-      then-next-byte w ↦ w.leaving-is ∙ w.with-leaving.ensures (filter test (range_with_len 0 byte)) c.loop-byte.invariant ∙ ap few (sym (passes_more test byte (ap not (ne_eqb (slice_index next byte) number w.if-next-byte.true))))
+      | then-next-byte w ↦ w.leaving-is ∙ w.with-leaving.ensures (filter test (range_with_len 0 byte)) c.loop-byte.invariant ∙ ap few (sym (passes_more test byte (ap not (ne_eqb (slice_index next byte) number w.if-next-byte.true))))
       | else-next-byte w ↦ w.leaving-is ∙ c.loop-byte.invariant ∙ ap few (sym (passes_same test byte (ap not (eq-eqb (slice_index next byte) number w.if-next-byte.false))))
     ]
 
