@@ -3,6 +3,7 @@ pub mod Drawn
 pub mod Endings
 pub mod Exits
 pub mod Gone
+pub mod KnownPatterns
 pub mod Named
 pub mod Occurs
 pub mod Opened

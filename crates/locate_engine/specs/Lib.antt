@@ -3,6 +3,7 @@ pub mod Sight
 pub mod Searched
 pub mod Passing
 pub mod Sought
+pub mod Kept
 pub mod Globs
 pub mod Wanted
 pub mod Statistics

@@ -2,46 +2,76 @@
 ghost use Rattle.std.specs.Prelude.{◌≡◌, ◌+◌, ◌≤◌, ◌↔◌, IsTrue, sum_by};
 ghost use Rattle.std.specs.List.{list_all, list_any};
 ghost use Rattle.locate_engine.specs.Globs.{judged, in_glob, wanted_by, wanted, Wants, sought_of, steps_of};
+ghost use Rattle.locate_engine.specs.Kept.{fresh, KnowsPath};
 
 use crate::globs::Globs;
 use crate::matcher::Matcher;
+use crate::next::is_wanted_next;
 use crate::query::Query;
+use crate::spots::Spots;
 use glob_match::{Glob, Steps};
 use path_order::base_start;
 use std::marker::Model;
 use std::sync::ledger::Ledger;
 
 /// Wants the paths that some pattern of a query matches, or every one, as the query says. A plain pattern in the case
-/// in which it is written takes no step.
+/// in which it is written takes no step. Of a whole path it is searched for only behind what the path shares with the one
+/// before.
 #[derive(Drop)]
 pub struct GlobMatcher<'q> {
     query: &'q Query,
+    spots: Spots,
 }
 
 impl<'q> Model for GlobMatcher<'q> {
-    ghost use Rattle.locate_engine.specs.declared.query.Query.{Query};
+    ghost use Rattle.locate_engine.specs.Kept.{Kept};
 
-    ghost Value = { Query };
+    ghost Value = { Kept };
 
-    ghost view = { λ m. m.query.now };
+    ghost view = { λ m. record { query = m.query.now; spots = m.spots } };
 }
 
 impl<'q> GlobMatcher<'q> {
     /// Looks for the paths that this query wants.
     pub fn new(query: &'q Query) -> GlobMatcher<'q>
-        ensures { result ≡ query.entry.now }
+        ensures { result ≡ fresh query.entry.now }
     {
-        GlobMatcher { query }
+        GlobMatcher {
+            query,
+            spots: Spots::new(),
+        }
     }
 }
 
 impl Matcher for GlobMatcher<'_> {
-    ghost sought = { λ m. sought_of m };
+    ghost sought = { λ m. sought_of m.query };
+
+    ghost knows = { KnowsPath };
 
     #[inline(always)]
     fn wants<L: Ledger>(&mut self, path: &[u8], steps: &mut Steps<L>) -> bool {
         let text = judged_text(self.query.base, path);
         is_wanted(&self.query.globs, self.query.all, text, steps)
+    }
+
+    fn begin(&mut self) {
+        self.spots.forget_from(0);
+    }
+
+    #[inline(always)]
+    fn wants_next<L: Ledger>(&mut self, path: &[u8], shared: usize, steps: &mut Steps<L>) -> bool {
+        let query = self.query;
+        if query.base {
+            return self.wants(path, steps);
+        }
+        is_wanted_next(
+            &query.globs,
+            query.all,
+            path,
+            shared,
+            &mut self.spots,
+            steps,
+        )
     }
 }
 

@@ -8,9 +8,11 @@ mod files;
 mod glob_matcher;
 mod globs;
 mod matcher;
+mod next;
 mod outcome;
 mod paths;
 mod query;
+mod spots;
 #[cfg(test)]
 mod statistics_tests;
 #[cfg(test)]

@@ -82,6 +82,7 @@ pub(crate) fn search_paths<P: PathStream, S: Source, M: Matcher, G: Gate, K: Sin
         number: None,
         shown: false,
     };
+    matcher.begin();
     'paths: loop {
         let more = match stream.next_path(src) {
             Ok(more) => more,
@@ -90,7 +91,7 @@ pub(crate) fn search_paths<P: PathStream, S: Source, M: Matcher, G: Gate, K: Sin
         if !more {
             return Outcome::Whole;
         }
-        if matcher.wants(stream.path(), steps) {
+        if matcher.wants_next(stream.path(), stream.shared(), steps) {
             match take_path(stream, query, gate, &mut block, out, tally) {
                 Step::On => {}
                 Step::LimitReached => return Outcome::LimitReached,

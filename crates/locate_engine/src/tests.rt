@@ -27,6 +27,10 @@ const GATED: &[u8] = b"\0mlocate\0\0\0\x02\0\x01\0\0/\0ab\
 /// A LOCATE02 database with `/a` and `/a/z`.
 const LOCATE02: &[u8] = b"\0LOCATE02\0\0/a\0\x02/z\0";
 
+/// A LOCATE02 database with `/usr/lib/one`, `/usr/lib/once`, `/usr/libx`, `/usr/zone` and `/zone`, which share 11, 8, 5
+/// and 1 bytes with the one before.
+const SHARING: &[u8] = b"\0LOCATE02\0\0/usr/lib/one\0\x0Bce\0\xFDx\0\xFDzone\0\xFCzone\0";
+
 /// A bigram database with `/a`, whose table has no pair.
 fn bigram(alloc: Global) -> Result<Vec<u8>, AllocError> {
     let mut bytes = Vec::new(alloc);
@@ -48,15 +52,22 @@ fn limit_of(options: &str) -> Option<u64>
     None
 }
 
-fn query_of(alloc: Global, options: &str, pattern: &str) -> Result<Query, AllocError>
+/// The patterns between commas.
+fn globs_of(alloc: Global, patterns: &str) -> Result<Globs, AllocError> {
+    let mut globs = Globs::new(alloc);
+    for pattern in patterns.split(',') {
+        globs.push(Glob::read(alloc, pattern.as_bytes(), false)?)?;
+    }
+    Ok(globs)
+}
+
+fn query_of(alloc: Global, options: &str, patterns: &str) -> Result<Query, AllocError>
     ensures { IfOk result (λ query. IfSome query.limit (λ limit. 0 < limit)) }
 {
-    let mut globs = Globs::new(alloc);
-    globs.push(Glob::read(alloc, pattern.as_bytes(), false)?)?;
     Ok(Query {
-        globs,
-        all: false,
-        base: false,
+        globs: globs_of(alloc, patterns)?,
+        all: options.contains('A'),
+        base: options.contains('B'),
         existing: options.contains('e'),
         follow: false,
         separator: b',',
@@ -85,6 +96,9 @@ fn gate_of(alloc: Global, options: &str) -> Result<MemGate, AllocError> {
 fn file_of(options: &str) -> &'static [u8] {
     if options.contains('s') {
         return LOCATE02;
+    }
+    if options.contains('n') {
+        return SHARING;
     }
     if options.contains('g') {
         return GATED;
@@ -172,16 +186,16 @@ fn text_of(printed: &str) -> &[u8] {
 fn is_right(
     alloc: Global,
     options: &str,
-    pattern: &str,
+    patterns: &str,
     outcome: &str,
     matched: &str,
     asks: &str,
     printed: &str,
 ) -> Result<bool, AllocError> {
-    let query = query_of(alloc, options, pattern)?;
+    let query = query_of(alloc, options, patterns)?;
     let mut files = files_of(alloc, options)?;
     let mut gate = gate_of(alloc, options)?;
-    let mut out = MemSink::with_room(alloc, if options.contains('w') { 6 } else { 64 })?;
+    let mut out = MemSink::with_room(alloc, if options.contains('w') { 6 } else { 80 })?;
     let (ended, count) = counted::<Brand>(Blank::new(1), &query, &mut files, &mut gate, &mut out);
     Ok(
         named(ended) == outcome
@@ -191,18 +205,18 @@ fn is_right(
     )
 }
 
-/// The first row that is answered otherwise. A row has options, a pattern, an outcome, the number of paths, that of asks,
+/// The first row that is answered otherwise. A row has options, patterns, an outcome, the number of paths, that of asks,
 /// and what is printed.
 fn first_wrong(alloc: Global, rows: &'static str) -> Result<Option<&'static str>, AllocError> {
     for row in rows.lines() {
         let mut words = row.split(' ');
         let options = words.next().unwrap_or("");
-        let pattern = words.next().unwrap_or("");
+        let patterns = words.next().unwrap_or("");
         let outcome = words.next().unwrap_or("");
         let matched = words.next().unwrap_or("");
         let asks = words.next().unwrap_or("");
         let printed = words.next().unwrap_or("");
-        if !is_right(alloc, options, pattern, outcome, matched, asks, printed)? {
+        if !is_right(alloc, options, patterns, outcome, matched, asks, printed)? {
             return Ok(Some(row));
         }
     }
@@ -268,6 +282,40 @@ b a Whole 1 0 /a,
 d a Cut 3 0 /a,/a.b,/a/z,
 dL1 a LimitReached 1 0 /a,
 c a Whole 3 0 none";
+    assert_eq!(rt; first_wrong(rt.alloc(), rows)?, None);
+    Ok(())
+}
+
+// Before, in and behind what a path shares with the one before, and across the border.
+#[test]
+fn judges_what_paths_share(rt: HostRuntime) -> Result<(), AllocError> {
+    let rows = "\
+n lib Whole 3 0 /usr/lib/one,/usr/lib/once,/usr/libx,
+n one Whole 3 0 /usr/lib/one,/usr/zone,/zone,
+n on Whole 4 0 /usr/lib/one,/usr/lib/once,/usr/zone,/zone,
+n once Whole 1 0 /usr/lib/once,
+n bx Whole 1 0 /usr/libx,
+n r/z Whole 1 0 /usr/zone,
+n /z Whole 2 0 /usr/zone,/zone,
+n usr Whole 4 0 /usr/lib/one,/usr/lib/once,/usr/libx,/usr/zone,
+nB lib Whole 1 0 /usr/libx,
+n *e Whole 4 0 /usr/lib/one,/usr/lib/once,/usr/zone,/zone,";
+    assert_eq!(rt; first_wrong(rt.alloc(), rows)?, None);
+    Ok(())
+}
+
+// A pattern that was not asked of the path before is asked of the whole path.
+#[test]
+fn judges_several_patterns(rt: HostRuntime) -> Result<(), AllocError> {
+    let rows = "\
+n lib,zone Whole 5 0 /usr/lib/one,/usr/lib/once,/usr/libx,/usr/zone,/zone,
+n once,usr/lib Whole 3 0 /usr/lib/one,/usr/lib/once,/usr/libx,
+nA usr,zone Whole 1 0 /usr/zone,
+nA once,lib Whole 1 0 /usr/lib/once,
+nA x,usr/lib Whole 1 0 /usr/libx,
+nB one,x Whole 4 0 /usr/lib/one,/usr/libx,/usr/zone,/zone,
+n q,q,q,q,q,q,q,q,q,/zo Whole 2 0 /usr/zone,/zone,
+nA /,/,/,/,/,/,/,/,/,on Whole 4 0 /usr/lib/one,/usr/lib/once,/usr/zone,/zone,";
     assert_eq!(rt; first_wrong(rt.alloc(), rows)?, None);
     Ok(())
 }

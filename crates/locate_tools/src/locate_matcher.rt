@@ -3,7 +3,7 @@ ghost use Rattle.std.specs.Prelude.{◌≡◌, ◌⊎◌, ◌↔◌, true, Some,
 ghost use Rattle.tool_words.specs.Locate.{seeks_expressions};
 ghost use Rattle.tool_words.specs.LocateSeen.{seen};
 ghost use Rattle.locate_tools.specs.LocateExact.{query_of as query_asked, sought_by};
-ghost use Rattle.locate_tools.specs.LocateMatcher.{sought_in};
+ghost use Rattle.locate_tools.specs.LocateMatcher.{knows_in, sought_in};
 ghost use Rattle.locate_tools.specs.Regexes.{Wants};
 ghost use Rattle.locate_tools.specs.RegexesAsked.{refusal_of, regexes_of};
 
@@ -26,11 +26,27 @@ pub enum LocateMatcher<'q> {
 impl Matcher for LocateMatcher<'_> {
     ghost sought = { sought_in };
 
-    #[inline(always)]
+    ghost knows = { knows_in };
+
     fn wants<L: Ledger>(&mut self, path: &[u8], steps: &mut Steps<L>) -> bool {
         match self {
             LocateMatcher::Globs(globs) => globs.wants(path, steps),
             LocateMatcher::Regexes(regexes) => regexes.wants(path, steps),
+        }
+    }
+
+    fn begin(&mut self) {
+        match self {
+            LocateMatcher::Globs(globs) => globs.begin(),
+            LocateMatcher::Regexes(regexes) => regexes.begin(),
+        }
+    }
+
+    #[inline(always)]
+    fn wants_next<L: Ledger>(&mut self, path: &[u8], shared: usize, steps: &mut Steps<L>) -> bool {
+        match self {
+            LocateMatcher::Globs(globs) => globs.wants_next(path, shared, steps),
+            LocateMatcher::Regexes(regexes) => regexes.wants_next(path, shared, steps),
         }
     }
 }

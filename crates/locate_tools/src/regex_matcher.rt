@@ -29,9 +29,17 @@ impl RegexMatcher {
 impl Matcher for RegexMatcher {
     ghost sought = { λ m. sought_of m.regexes.items m.all m.base };
 
+    ghost knows = { λ m path. ⊤ };
+
     fn wants<L: Ledger>(&mut self, path: &[u8], steps: &mut Steps<L>) -> bool {
         let text = judged_text(self.base, path);
         is_wanted(&mut self.regexes, self.all, text, steps)
+    }
+
+    fn begin(&mut self) {}
+
+    fn wants_next<L: Ledger>(&mut self, path: &[u8], _shared: usize, steps: &mut Steps<L>) -> bool {
+        self.wants(path, steps)
     }
 }
 

@@ -1,5 +1,6 @@
-use Rattle.std.proofs.Common.{◌≡◌, ◌++◌, ◌∷◌, [], None, Ok, Err, List, ℕ, Bool, true, false, ◌≤◌, ◌+◌, refl, sym, ap, ◌∙◌, append_assoc, arith}
+use Rattle.std.proofs.Common.{◌≡◌, ◌++◌, ◌∷◌, [], None, Ok, Err, List, ℕ, length, take, Bool, true, false, ◌≤◌, ◌+◌, refl, sym, ap, subst, ◌∙◌, append_assoc, arith}
 use Rattle.byte_feed.specs.Feed.{reach}
+use Rattle.byte_feed.specs.Calls.{Shares}
 use Rattle.byte_feed.specs.Paths.{PathAt, after_paths, ToCome}
 use Rattle.byte_feed.proofs.Draws.{draws_none, draws_then}
 use Rattle.byte_feed.proofs.Rests.{moved_none, moved_then, moved_same}
@@ -16,6 +17,16 @@ use Rattle.locate_engine.proofs.paths.search_paths.Goals as goal
 -- one path more, after those before
 joined : (given : List PathAt) (p : PathAt) (z : ToCome) → after_paths given (after_paths (p ∷ []) z) ≡ after_paths (given ++ p ∷ []) z
 joined given p z = ap (λ (ps : List PathAt). record { paths = ps; ending = z.ending; place = z.place; heads = z.heads }) (sym (append_assoc given (p ∷ []) z.paths))
+
+-- so many bytes are shared by what the two calls give
+shares_as : (n : ℕ) (n' : ℕ) (before path path' : List ℕ) → n' ≡ n → path' ≡ path → Shares n before path → Shares n' before path'
+shares_as n n' before path path' count same shares = record {
+  within = omega (arith, count, ap length same, shares.within);
+  same = ap (λ (k : ℕ). take k path') count ∙ ap (take n) same ∙ shares.same ∙ ap (λ (k : ℕ). take k before) (sym count);
+}
+
+pub wants_next-requires : goal.wants_next-requires
+wants_next-requires g c = record { follows = (_, c.paths.invariant.knows, shares_as _ _ _ _ _ c.shared.ensures c.path.ensures (c.in-Ok.ensures.shares c.if-not-more.false)) }
 
 pub paths-init : goal.paths-init
 paths-init g c = record {
@@ -41,7 +52,8 @@ paths-init g c = record {
   asked = omega arith;
   gated = refl;
   tests = refl;
-  sought = refl;
+  sought = c.begin.ensures.same;
+  knows = c.begin.ensures.knows _;
 }
 
 pub returns-in-Err-clause-drawn : goal.returns-in-Err-clause-drawn
@@ -82,10 +94,10 @@ returns-in-LimitReached-clause-searched g c =
     let before = c.paths.invariant.gone in
     let p : PathAt = g.P.PathStream.found c.next_path.new.self in
     let found = c.in-Ok.ensures.path c.if-not-more.false in
-    let answer : wanted p.text ≡ true = ap wanted (sym c.path.ensures) ∙ ap (λ (k : Sought). k.wanted c.path.result.now) (sym c.paths.invariant.sought) ∙ sym c.wants.ensures.answer ∙ c.if-wants.true in
+    let answer : wanted p.text ≡ true = ap wanted (sym c.path.ensures) ∙ ap (λ (k : Sought). k.wanted c.path.result.now) (sym c.paths.invariant.sought) ∙ sym c.wants_next.ensures.answer ∙ c.if-wants_next.true in
     let dear : (g.M.Matcher.sought c.paths.matcher).bound c.path.result.now ≡ bound p.text = ap (λ (k : Sought). k.bound c.path.result.now) c.paths.invariant.sought ∙ ap bound c.path.ensures in
-    let cost : c.wants.new.steps ≤ c.paths.steps + bound p.text = omega (arith, c.wants.ensures.within, dear) in
-    let dearer : c.wants.new.steps ≤ c.args.steps.now + steps_over bound (before.0 ++ p ∷ []) = omega (arith, before.2, cost, steps_one bound before.0 p) in
+    let cost : c.wants_next.new.steps ≤ c.paths.steps + bound p.text = omega (arith, c.wants_next.ensures.within, dear) in
+    let dearer : c.wants_next.new.steps ≤ c.args.steps.now + steps_over bound (before.0 ++ p ∷ []) = omega (arith, before.2, cost, steps_one bound before.0 p) in
     let moved = moved_same _ _ _ _ _ _ _ _ (joined before.0 p) (moved_then _ _ _ _ _ _ _ _ _ _ _ before.1 found) in
     let old : Stand = stand (g.K.Sink.taken c.paths.out) c.paths.tally.matched (g.G.Gate.asks c.paths.gate) in
     let new : Stand = stand (g.K.Sink.taken c.take_path.new.out) c.take_path.new.tally.matched (g.G.Gate.asks c.take_path.new.gate) in
@@ -102,10 +114,10 @@ returns-in-GateFault-clause-searched g c =
     let before = c.paths.invariant.gone in
     let p : PathAt = g.P.PathStream.found c.next_path.new.self in
     let found = c.in-Ok.ensures.path c.if-not-more.false in
-    let answer : wanted p.text ≡ true = ap wanted (sym c.path.ensures) ∙ ap (λ (k : Sought). k.wanted c.path.result.now) (sym c.paths.invariant.sought) ∙ sym c.wants.ensures.answer ∙ c.if-wants.true in
+    let answer : wanted p.text ≡ true = ap wanted (sym c.path.ensures) ∙ ap (λ (k : Sought). k.wanted c.path.result.now) (sym c.paths.invariant.sought) ∙ sym c.wants_next.ensures.answer ∙ c.if-wants_next.true in
     let dear : (g.M.Matcher.sought c.paths.matcher).bound c.path.result.now ≡ bound p.text = ap (λ (k : Sought). k.bound c.path.result.now) c.paths.invariant.sought ∙ ap bound c.path.ensures in
-    let cost : c.wants.new.steps ≤ c.paths.steps + bound p.text = omega (arith, c.wants.ensures.within, dear) in
-    let dearer : c.wants.new.steps ≤ c.args.steps.now + steps_over bound (before.0 ++ p ∷ []) = omega (arith, before.2, cost, steps_one bound before.0 p) in
+    let cost : c.wants_next.new.steps ≤ c.paths.steps + bound p.text = omega (arith, c.wants_next.ensures.within, dear) in
+    let dearer : c.wants_next.new.steps ≤ c.args.steps.now + steps_over bound (before.0 ++ p ∷ []) = omega (arith, before.2, cost, steps_one bound before.0 p) in
     let moved = moved_same _ _ _ _ _ _ _ _ (joined before.0 p) (moved_then _ _ _ _ _ _ _ _ _ _ _ before.1 found) in
     let old : Stand = stand (g.K.Sink.taken c.paths.out) c.paths.tally.matched (g.G.Gate.asks c.paths.gate) in
     let new : Stand = stand (g.K.Sink.taken c.take_path.new.out) c.take_path.new.tally.matched (g.G.Gate.asks c.take_path.new.gate) in
@@ -121,10 +133,10 @@ returns-in-WriteFault-clause-searched g c =
     let before = c.paths.invariant.gone in
     let p : PathAt = g.P.PathStream.found c.next_path.new.self in
     let found = c.in-Ok.ensures.path c.if-not-more.false in
-    let answer : wanted p.text ≡ true = ap wanted (sym c.path.ensures) ∙ ap (λ (k : Sought). k.wanted c.path.result.now) (sym c.paths.invariant.sought) ∙ sym c.wants.ensures.answer ∙ c.if-wants.true in
+    let answer : wanted p.text ≡ true = ap wanted (sym c.path.ensures) ∙ ap (λ (k : Sought). k.wanted c.path.result.now) (sym c.paths.invariant.sought) ∙ sym c.wants_next.ensures.answer ∙ c.if-wants_next.true in
     let dear : (g.M.Matcher.sought c.paths.matcher).bound c.path.result.now ≡ bound p.text = ap (λ (k : Sought). k.bound c.path.result.now) c.paths.invariant.sought ∙ ap bound c.path.ensures in
-    let cost : c.wants.new.steps ≤ c.paths.steps + bound p.text = omega (arith, c.wants.ensures.within, dear) in
-    let dearer : c.wants.new.steps ≤ c.args.steps.now + steps_over bound (before.0 ++ p ∷ []) = omega (arith, before.2, cost, steps_one bound before.0 p) in
+    let cost : c.wants_next.new.steps ≤ c.paths.steps + bound p.text = omega (arith, c.wants_next.ensures.within, dear) in
+    let dearer : c.wants_next.new.steps ≤ c.args.steps.now + steps_over bound (before.0 ++ p ∷ []) = omega (arith, before.2, cost, steps_one bound before.0 p) in
     let moved = moved_same _ _ _ _ _ _ _ _ (joined before.0 p) (moved_then _ _ _ _ _ _ _ _ _ _ _ before.1 found) in
     let old : Stand = stand (g.K.Sink.taken c.paths.out) c.paths.tally.matched (g.G.Gate.asks c.paths.gate) in
     let new : Stand = stand (g.K.Sink.taken c.take_path.new.out) c.take_path.new.tally.matched (g.G.Gate.asks c.take_path.new.gate) in
@@ -140,10 +152,10 @@ paths-preserved-in-On g c =
     let before = c.paths.invariant.gone in
     let p : PathAt = g.P.PathStream.found c.next_path.new.self in
     let found = c.in-Ok.ensures.path c.if-not-more.false in
-    let answer : wanted p.text ≡ true = ap wanted (sym c.path.ensures) ∙ ap (λ (k : Sought). k.wanted c.path.result.now) (sym c.paths.invariant.sought) ∙ sym c.wants.ensures.answer ∙ c.if-wants.true in
+    let answer : wanted p.text ≡ true = ap wanted (sym c.path.ensures) ∙ ap (λ (k : Sought). k.wanted c.path.result.now) (sym c.paths.invariant.sought) ∙ sym c.wants_next.ensures.answer ∙ c.if-wants_next.true in
     let dear : (g.M.Matcher.sought c.paths.matcher).bound c.path.result.now ≡ bound p.text = ap (λ (k : Sought). k.bound c.path.result.now) c.paths.invariant.sought ∙ ap bound c.path.ensures in
-    let cost : c.wants.new.steps ≤ c.paths.steps + bound p.text = omega (arith, c.wants.ensures.within, dear) in
-    let dearer : c.wants.new.steps ≤ c.args.steps.now + steps_over bound (before.0 ++ p ∷ []) = omega (arith, before.2, cost, steps_one bound before.0 p) in
+    let cost : c.wants_next.new.steps ≤ c.paths.steps + bound p.text = omega (arith, c.wants_next.ensures.within, dear) in
+    let dearer : c.wants_next.new.steps ≤ c.args.steps.now + steps_over bound (before.0 ++ p ∷ []) = omega (arith, before.2, cost, steps_one bound before.0 p) in
     let moved = moved_same _ _ _ _ _ _ _ _ (joined before.0 p) (moved_then _ _ _ _ _ _ _ _ _ _ _ before.1 found) in
     let old : Stand = stand (g.K.Sink.taken c.paths.out) c.paths.tally.matched (g.G.Gate.asks c.paths.gate) in
     let new : Stand = stand (g.K.Sink.taken c.take_path.new.out) c.take_path.new.tally.matched (g.G.Gate.asks c.take_path.new.gate) in
@@ -162,7 +174,7 @@ paths-preserved-in-On g c =
       within = omega (arith, c.paths.invariant.within, c.in-On.ensures.within, grows);
       below = c.in-On.ensures.below (λ e. absurd cc);
       only_counted = λ only. c.in-On.ensures.only_counted only ∙ c.paths.invariant.only_counted only;
-      steps = omega (arith, c.paths.invariant.steps, c.wants.ensures.later);
+      steps = omega (arith, c.paths.invariant.steps, c.wants_next.ensures.later);
       drawn = draws_then _ _ _ _ _ _ _ _ _ c.paths.invariant.drawn c.in-Ok.ensures.ahead.drawn;
       src = g.met.S.Source.keeps_on _ _ _ c.paths.invariant.src c.in-Ok.ensures.kept;
       gate = g.met.G.Gate.keeps_on _ _ _ c.paths.invariant.gate c.in-On.ensures.gate_kept;
@@ -173,7 +185,8 @@ paths-preserved-in-On g c =
       asked = omega (arith, c.paths.invariant.asked, c.in-On.ensures.asks_rise);
       gated = c.in-Ok.ensures.gate ∙ c.paths.invariant.gated;
       tests = g.met.G.Gate.keeps_tests _ _ c.in-On.ensures.gate_kept ∙ c.paths.invariant.tests;
-      sought = c.wants.ensures.same ∙ c.paths.invariant.sought;
+      sought = c.wants_next.ensures.same ∙ c.paths.invariant.sought;
+      knows = subst (g.M.Matcher.knows c.wants_next.new.self) c.path.ensures c.wants_next.ensures.knows;
     }
 
 pub paths-preserved : goal.paths-preserved
@@ -184,10 +197,10 @@ paths-preserved g c =
     let before = c.paths.invariant.gone in
     let p : PathAt = g.P.PathStream.found c.next_path.new.self in
     let found = c.in-Ok.ensures.path c.if-not-more.false in
-    let answer : wanted p.text ≡ false = ap wanted (sym c.path.ensures) ∙ ap (λ (k : Sought). k.wanted c.path.result.now) (sym c.paths.invariant.sought) ∙ sym c.wants.ensures.answer ∙ c.if-wants.false in
+    let answer : wanted p.text ≡ false = ap wanted (sym c.path.ensures) ∙ ap (λ (k : Sought). k.wanted c.path.result.now) (sym c.paths.invariant.sought) ∙ sym c.wants_next.ensures.answer ∙ c.if-wants_next.false in
     let dear : (g.M.Matcher.sought c.paths.matcher).bound c.path.result.now ≡ bound p.text = ap (λ (k : Sought). k.bound c.path.result.now) c.paths.invariant.sought ∙ ap bound c.path.ensures in
-    let cost : c.wants.new.steps ≤ c.paths.steps + bound p.text = omega (arith, c.wants.ensures.within, dear) in
-    let dearer : c.wants.new.steps ≤ c.args.steps.now + steps_over bound (before.0 ++ p ∷ []) = omega (arith, before.2, cost, steps_one bound before.0 p) in
+    let cost : c.wants_next.new.steps ≤ c.paths.steps + bound p.text = omega (arith, c.wants_next.ensures.within, dear) in
+    let dearer : c.wants_next.new.steps ≤ c.args.steps.now + steps_over bound (before.0 ++ p ∷ []) = omega (arith, before.2, cost, steps_one bound before.0 p) in
     let moved = moved_same _ _ _ _ _ _ _ _ (joined before.0 p) (moved_then _ _ _ _ _ _ _ _ _ _ _ before.1 found) in
     let grows = c.in-Ok.ensures.grows c.if-not-more.false in
     record {
@@ -197,13 +210,13 @@ paths-preserved g c =
         moved,
         dearer,
         λ told tells one. step_no (rule_of wanted c.args.query.now gated told) bound (g.P.PathStream.to_come c.args.stream.now) (g.P.PathStream.to_come c.next_path.new.self) (g.P.PathStream.feed c.args.stream.now) (g.P.PathStream.feed c.next_path.new.self) before.0 p c.paths.block
-            (stand (g.K.Sink.taken c.args.out.now) c.args.tally.now.matched (g.G.Gate.asks c.args.gate.now)) (stand (g.K.Sink.taken c.paths.out) c.paths.tally.matched (g.G.Gate.asks c.paths.gate)) c.args.steps.now c.paths.steps c.wants.new.steps cost (g.S.Source.left c.args.src.now) answer (before.3 told tells one),
+            (stand (g.K.Sink.taken c.args.out.now) c.args.tally.now.matched (g.G.Gate.asks c.args.gate.now)) (stand (g.K.Sink.taken c.paths.out) c.paths.tally.matched (g.G.Gate.asks c.paths.gate)) c.args.steps.now c.paths.steps c.wants_next.new.steps cost (g.S.Source.left c.args.src.now) answer (before.3 told tells one),
       );
       rises = c.paths.invariant.rises;
       within = omega (arith, c.paths.invariant.within, grows);
       below = c.paths.invariant.below;
       only_counted = c.paths.invariant.only_counted;
-      steps = omega (arith, c.paths.invariant.steps, c.wants.ensures.later);
+      steps = omega (arith, c.paths.invariant.steps, c.wants_next.ensures.later);
       drawn = draws_then _ _ _ _ _ _ _ _ _ c.paths.invariant.drawn c.in-Ok.ensures.ahead.drawn;
       src = g.met.S.Source.keeps_on _ _ _ c.paths.invariant.src c.in-Ok.ensures.kept;
       gate = c.paths.invariant.gate;
@@ -214,7 +227,8 @@ paths-preserved g c =
       asked = c.paths.invariant.asked;
       gated = c.in-Ok.ensures.gate ∙ c.paths.invariant.gated;
       tests = c.paths.invariant.tests;
-      sought = c.wants.ensures.same ∙ c.paths.invariant.sought;
+      sought = c.wants_next.ensures.same ∙ c.paths.invariant.sought;
+      knows = subst (g.M.Matcher.knows c.wants_next.new.self) c.path.ensures c.wants_next.ensures.knows;
     }
 
 pub returns-in-Err-clause-ended : goal.returns-in-Err-clause-ended
@@ -236,12 +250,12 @@ returns-in-LimitReached-clause-ended g c =
     let before = c.paths.invariant.gone in
     let p : PathAt = g.P.PathStream.found c.next_path.new.self in
     let found = c.in-Ok.ensures.path c.if-not-more.false in
-    let answer : wanted p.text ≡ true = ap wanted (sym c.path.ensures) ∙ ap (λ (k : Sought). k.wanted c.path.result.now) (sym c.paths.invariant.sought) ∙ sym c.wants.ensures.answer ∙ c.if-wants.true in
+    let answer : wanted p.text ≡ true = ap wanted (sym c.path.ensures) ∙ ap (λ (k : Sought). k.wanted c.path.result.now) (sym c.paths.invariant.sought) ∙ sym c.wants_next.ensures.answer ∙ c.if-wants_next.true in
     let dear : (g.M.Matcher.sought c.paths.matcher).bound c.path.result.now ≡ bound p.text = ap (λ (k : Sought). k.bound c.path.result.now) c.paths.invariant.sought ∙ ap bound c.path.ensures in
-    let cost : c.wants.new.steps ≤ c.paths.steps + bound p.text = omega (arith, c.wants.ensures.within, dear) in
-    let dearer : c.wants.new.steps ≤ c.args.steps.now + steps_over bound (before.0 ++ p ∷ []) = omega (arith, before.2, cost, steps_one bound before.0 p) in
+    let cost : c.wants_next.new.steps ≤ c.paths.steps + bound p.text = omega (arith, c.wants_next.ensures.within, dear) in
+    let dearer : c.wants_next.new.steps ≤ c.args.steps.now + steps_over bound (before.0 ++ p ∷ []) = omega (arith, before.2, cost, steps_one bound before.0 p) in
     let moved = moved_same _ _ _ _ _ _ _ _ (joined before.0 p) (moved_then _ _ _ _ _ _ _ _ _ _ _ before.1 found) in
-    ended_mid bound (g.P.PathStream.to_come c.args.stream.now) _ (g.P.PathStream.feed c.args.stream.now) _ (before.0 ++ p ∷ []) (g.S.Source.left c.args.src.now) _ c.args.steps.now c.wants.new.steps dearer _ moved refl
+    ended_mid bound (g.P.PathStream.to_come c.args.stream.now) _ (g.P.PathStream.feed c.args.stream.now) _ (before.0 ++ p ∷ []) (g.S.Source.left c.args.src.now) _ c.args.steps.now c.wants_next.new.steps dearer _ moved refl
 
 pub returns-in-GateFault-clause-ended : goal.returns-in-GateFault-clause-ended
 returns-in-GateFault-clause-ended g c =
@@ -251,12 +265,12 @@ returns-in-GateFault-clause-ended g c =
     let before = c.paths.invariant.gone in
     let p : PathAt = g.P.PathStream.found c.next_path.new.self in
     let found = c.in-Ok.ensures.path c.if-not-more.false in
-    let answer : wanted p.text ≡ true = ap wanted (sym c.path.ensures) ∙ ap (λ (k : Sought). k.wanted c.path.result.now) (sym c.paths.invariant.sought) ∙ sym c.wants.ensures.answer ∙ c.if-wants.true in
+    let answer : wanted p.text ≡ true = ap wanted (sym c.path.ensures) ∙ ap (λ (k : Sought). k.wanted c.path.result.now) (sym c.paths.invariant.sought) ∙ sym c.wants_next.ensures.answer ∙ c.if-wants_next.true in
     let dear : (g.M.Matcher.sought c.paths.matcher).bound c.path.result.now ≡ bound p.text = ap (λ (k : Sought). k.bound c.path.result.now) c.paths.invariant.sought ∙ ap bound c.path.ensures in
-    let cost : c.wants.new.steps ≤ c.paths.steps + bound p.text = omega (arith, c.wants.ensures.within, dear) in
-    let dearer : c.wants.new.steps ≤ c.args.steps.now + steps_over bound (before.0 ++ p ∷ []) = omega (arith, before.2, cost, steps_one bound before.0 p) in
+    let cost : c.wants_next.new.steps ≤ c.paths.steps + bound p.text = omega (arith, c.wants_next.ensures.within, dear) in
+    let dearer : c.wants_next.new.steps ≤ c.args.steps.now + steps_over bound (before.0 ++ p ∷ []) = omega (arith, before.2, cost, steps_one bound before.0 p) in
     let moved = moved_same _ _ _ _ _ _ _ _ (joined before.0 p) (moved_then _ _ _ _ _ _ _ _ _ _ _ before.1 found) in
-    ended_mid bound (g.P.PathStream.to_come c.args.stream.now) _ (g.P.PathStream.feed c.args.stream.now) _ (before.0 ++ p ∷ []) (g.S.Source.left c.args.src.now) _ c.args.steps.now c.wants.new.steps dearer _ moved refl
+    ended_mid bound (g.P.PathStream.to_come c.args.stream.now) _ (g.P.PathStream.feed c.args.stream.now) _ (before.0 ++ p ∷ []) (g.S.Source.left c.args.src.now) _ c.args.steps.now c.wants_next.new.steps dearer _ moved refl
 
 pub returns-in-WriteFault-clause-ended : goal.returns-in-WriteFault-clause-ended
 returns-in-WriteFault-clause-ended g c =
@@ -266,12 +280,12 @@ returns-in-WriteFault-clause-ended g c =
     let before = c.paths.invariant.gone in
     let p : PathAt = g.P.PathStream.found c.next_path.new.self in
     let found = c.in-Ok.ensures.path c.if-not-more.false in
-    let answer : wanted p.text ≡ true = ap wanted (sym c.path.ensures) ∙ ap (λ (k : Sought). k.wanted c.path.result.now) (sym c.paths.invariant.sought) ∙ sym c.wants.ensures.answer ∙ c.if-wants.true in
+    let answer : wanted p.text ≡ true = ap wanted (sym c.path.ensures) ∙ ap (λ (k : Sought). k.wanted c.path.result.now) (sym c.paths.invariant.sought) ∙ sym c.wants_next.ensures.answer ∙ c.if-wants_next.true in
     let dear : (g.M.Matcher.sought c.paths.matcher).bound c.path.result.now ≡ bound p.text = ap (λ (k : Sought). k.bound c.path.result.now) c.paths.invariant.sought ∙ ap bound c.path.ensures in
-    let cost : c.wants.new.steps ≤ c.paths.steps + bound p.text = omega (arith, c.wants.ensures.within, dear) in
-    let dearer : c.wants.new.steps ≤ c.args.steps.now + steps_over bound (before.0 ++ p ∷ []) = omega (arith, before.2, cost, steps_one bound before.0 p) in
+    let cost : c.wants_next.new.steps ≤ c.paths.steps + bound p.text = omega (arith, c.wants_next.ensures.within, dear) in
+    let dearer : c.wants_next.new.steps ≤ c.args.steps.now + steps_over bound (before.0 ++ p ∷ []) = omega (arith, before.2, cost, steps_one bound before.0 p) in
     let moved = moved_same _ _ _ _ _ _ _ _ (joined before.0 p) (moved_then _ _ _ _ _ _ _ _ _ _ _ before.1 found) in
-    ended_mid bound (g.P.PathStream.to_come c.args.stream.now) _ (g.P.PathStream.feed c.args.stream.now) _ (before.0 ++ p ∷ []) (g.S.Source.left c.args.src.now) _ c.args.steps.now c.wants.new.steps dearer _ moved refl
+    ended_mid bound (g.P.PathStream.to_come c.args.stream.now) _ (g.P.PathStream.feed c.args.stream.now) _ (before.0 ++ p ∷ []) (g.S.Source.left c.args.src.now) _ c.args.steps.now c.wants_next.new.steps dearer _ moved refl
 
 pub returns-in-Err-clause-moves : goal.returns-in-Err-clause-moves
 returns-in-Err-clause-moves g c = rw c.outcome_at.ensures (record {
@@ -310,7 +324,7 @@ returns-in-LimitReached-clause-moves g c = record {
   reads = reads_drawn _ _ _ _ _ _ _ _ _ (returns-in-LimitReached-clause-drawn g c) c.in-Ok.ensures.ahead.bound (omega (arith, c.paths.invariant.read, c.in-Ok.ensures.later)) (λ e. absurd cc);
   matched = omega (arith, c.paths.invariant.rises, c.in-LimitReached.ensures.rises);
   matched_within = omega (arith, c.paths.invariant.within, c.in-LimitReached.ensures.within, c.in-Ok.ensures.grows c.if-not-more.false, c.in-Ok.ensures.place.bound);
-  steps = omega (arith, c.paths.invariant.steps, c.wants.ensures.later);
+  steps = omega (arith, c.paths.invariant.steps, c.wants_next.ensures.later);
   asks = omega (arith, c.paths.invariant.asked, c.in-LimitReached.ensures.asks_rise);
   gate = omega (arith, c.paths.invariant.answered, c.in-LimitReached.ensures.gate_later);
   writes = omega (arith, c.paths.invariant.written, c.in-LimitReached.ensures.out_later);
@@ -325,7 +339,7 @@ returns-in-GateFault-clause-moves g c = record {
   reads = reads_drawn _ _ _ _ _ _ _ _ _ (returns-in-GateFault-clause-drawn g c) c.in-Ok.ensures.ahead.bound (omega (arith, c.paths.invariant.read, c.in-Ok.ensures.later)) (λ e. absurd cc);
   matched = omega (arith, c.paths.invariant.rises, c.in-GateFault.ensures.rises);
   matched_within = omega (arith, c.paths.invariant.within, c.in-GateFault.ensures.within, c.in-Ok.ensures.grows c.if-not-more.false, c.in-Ok.ensures.place.bound);
-  steps = omega (arith, c.paths.invariant.steps, c.wants.ensures.later);
+  steps = omega (arith, c.paths.invariant.steps, c.wants_next.ensures.later);
   asks = omega (arith, c.paths.invariant.asked, c.in-GateFault.ensures.asks_rise);
   gate = omega (arith, c.paths.invariant.answered, c.in-GateFault.ensures.gate_later);
   writes = omega (arith, c.paths.invariant.written, c.in-GateFault.ensures.out_later);
@@ -340,7 +354,7 @@ returns-in-WriteFault-clause-moves g c = record {
   reads = reads_drawn _ _ _ _ _ _ _ _ _ (returns-in-WriteFault-clause-drawn g c) c.in-Ok.ensures.ahead.bound (omega (arith, c.paths.invariant.read, c.in-Ok.ensures.later)) (λ e. absurd cc);
   matched = omega (arith, c.paths.invariant.rises, c.in-WriteFault.ensures.rises);
   matched_within = omega (arith, c.paths.invariant.within, c.in-WriteFault.ensures.within, c.in-Ok.ensures.grows c.if-not-more.false, c.in-Ok.ensures.place.bound);
-  steps = omega (arith, c.paths.invariant.steps, c.wants.ensures.later);
+  steps = omega (arith, c.paths.invariant.steps, c.wants_next.ensures.later);
   asks = omega (arith, c.paths.invariant.asked, c.in-WriteFault.ensures.asks_rise);
   gate = omega (arith, c.paths.invariant.answered, c.in-WriteFault.ensures.gate_later);
   writes = omega (arith, c.paths.invariant.written, c.in-WriteFault.ensures.out_later);

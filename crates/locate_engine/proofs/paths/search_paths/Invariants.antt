@@ -35,6 +35,7 @@ invariant-paths g l = record {
   gated : g.P.PathStream.is_gated l.stream ≡ g.P.PathStream.is_gated l.fn.stream;
   tests : g.G.Gate.tests l.gate ≡ g.G.Gate.tests l.fn.gate;
   sought : g.M.Matcher.sought l.matcher ≡ g.M.Matcher.sought l.fn.matcher;
+  knows : g.M.Matcher.knows l.matcher (g.P.PathStream.found l.stream).text;
 }
 
 abbrev pub decreases-paths : goal.decreases-paths

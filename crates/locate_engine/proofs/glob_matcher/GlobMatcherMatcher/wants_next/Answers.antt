@@ -1,0 +1,1 @@
+use Rattle.locate_engine.proofs.glob_matcher.GlobMatcherMatcher.wants_next.Goals as goal
