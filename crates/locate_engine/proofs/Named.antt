@@ -1,5 +1,5 @@
 -- What a search did with the file of a name.
-use Rattle.std.proofs.Common.{◌≡◌, ℕ, ◌≤◌, ◌<◌, List, Option, Some, None, Ok, IfSome, refl, sym, subst, ◌∙◌, arith}
+use Rattle.std.proofs.Common.{◌≡◌, ℕ, ◌≤◌, ◌<◌, List, Option, Some, None, Ok, IfSome, refl, subst, ◌∙◌, arith}
 use Rattle.std.specs.Prelude.{IsSome}
 use Rattle.std.specs.FinMap as map
 use Rattle.loc_outside.specs.Causes.{Rose}
@@ -8,7 +8,7 @@ use Rattle.loc_outside.specs.Outside.{OpensAs}
 use Rattle.loc_outside.specs.declared.traits.bytes.Opened.{Opened}
 use Rattle.loc_outside.specs.declared.traits.bytes.Opened.TheVariants.{Found, Missing}
 use Rattle.any_db.specs.Formats.{contents}
-use Rattle.locate_engine.specs.Files.{FindsNone, ReadsWithin, SearchesFile, SearchesFound, SearchesNamed, SearchesPart}
+use Rattle.locate_engine.specs.Files.{ReadsWithin, SearchesFile, SearchesFound, SearchesNamed, SearchesPart}
 use Rattle.locate_engine.specs.Searched.{EndsWithin}
 use Rattle.locate_engine.specs.Sight.{MeetsLimit, Moves, Sight, stand_in}
 use Rattle.locate_engine.specs.Sought.{Sought}

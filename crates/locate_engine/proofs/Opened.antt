@@ -1,5 +1,5 @@
 -- A search of a file that was just opened.
-use Rattle.std.proofs.Common.{◌≡◌, ℕ, ◌+◌, ◌-◌, ◌^◌, ◌≤◌, ◌<◌, Bool, true, false, cond, ◌||◌, List, [], length, take, Option, Some, None, Ok, Err, IfSome, refl, sym, ap, subst, ◌∙◌, arith}
+use Rattle.std.proofs.Common.{◌≡◌, ℕ, ◌-◌, ◌^◌, ◌≤◌, ◌<◌, Bool, true, false, cond, ◌||◌, List, [], length, take, Option, Some, None, Err, IfSome, refl, sym, ap, subst, ◌∙◌, arith}
 use Rattle.std.proofs.Math.Seq.{take-nil}
 use Rattle.loc_outside.specs.Gates.{Tests}
 use Rattle.byte_feed.specs.declared.damage.DbFault.{DbFault}
@@ -21,7 +21,7 @@ use Rattle.locate_engine.specs.declared.query.Query.{Query}
 use Rattle.locate_engine.specs.declared.outcome.Outcome.{Outcome}
 use Rattle.locate_engine.specs.declared.outcome.Outcome.TheVariants as outcomes
 use Rattle.locate_engine.proofs.Drawn.{fewer_left, seen_by, seen_later, whole_window}
-use Rattle.locate_engine.proofs.Endings.{no_limit, no_read_fault, off_on, on_off}
+use Rattle.locate_engine.proofs.Endings.{no_limit, no_read_fault, on_off}
 use Rattle.locate_engine.proofs.Gone.{went_none}
 use Rattle.locate_engine.proofs.Exits.{all_given, ended_end, ended_later}
 use Rattle.locate_engine.proofs.Told.{if_each, if_some}

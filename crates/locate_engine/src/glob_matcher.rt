@@ -62,7 +62,8 @@ impl Matcher for GlobMatcher<'_> {
     fn wants_next<L: Ledger>(&mut self, path: &[u8], shared: usize, steps: &mut Steps<L>) -> bool {
         let query = self.query;
         if query.base {
-            return self.wants(path, steps);
+            let base = judged_text(true, path);
+            return is_wanted(&query.globs, query.all, base, steps);
         }
         is_wanted_next(
             &query.globs,

@@ -1,4 +1,4 @@
-use Rattle.std.proofs.Common.{Err, ap, refl, ◌∙◌, arith}
+use Rattle.std.proofs.Common.{Err, ap, refl, arith}
 use Rattle.byte_feed.proofs.Draws.{draws_then}
 use Rattle.locate_engine.specs.Searched.{stand}
 use Rattle.locate_engine.proofs.Drawn.{once_opened, reads_drawn}

@@ -1,1 +1,0 @@
-use Rattle.locate_engine.proofs.glob_matcher.GlobMatcherMatcher.wants_next.Goals as goal
