@@ -1,5 +1,5 @@
 -- The matcher of the words of `locate`, as contracts see it.
-use Rattle.std.specs.Prelude.{ℕ, List}
+use Rattle.std.specs.Prelude.{ℕ, List, ⊤}
 use Rattle.locate_engine.specs.Globs.{sought_of}
 use Rattle.locate_engine.specs.Kept.{KnowsPath}
 use Rattle.locate_engine.specs.Sought.{Sought}

@@ -1,5 +1,5 @@
 //! The paths that regular expressions want.
-ghost use Rattle.std.specs.Prelude.{◌≡◌, ◌+◌, ◌≤◌, sum_by};
+ghost use Rattle.std.specs.Prelude.{◌≡◌, ◌+◌, ◌≤◌, sum_by, ⊤};
 ghost use Rattle.std.specs.List.{list_all, list_any};
 ghost use Rattle.locate_engine.specs.Globs.{judged};
 ghost use Rattle.locate_tools.specs.Regexes.{found_in, sought_of, steps_of, wanted_by};
