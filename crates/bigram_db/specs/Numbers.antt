@@ -4,7 +4,7 @@ use Rattle.bigram_db.specs.Pairs.{Pair, number_of}
 use Rattle.bigram_db.specs.Chosen.{is_counted}
 use Rattle.bigram_db.specs.Counts.{index_of}
 
--- what a cell tells: a number below 128, or with any greater one that the table lacks the pair
+-- what a cell tells: below 128 the pair's number, from 128 on that the table lacks the pair
 abbrev pub number_told : ℕ → Option ℕ
 number_told cell = if nat_lt cell 128 then Some cell else None
 

@@ -74,7 +74,7 @@ pub record PlaceMoves (f' : FeedState) (place place' heads' : ℕ) : Type 0 wher
   pub near : f'.offset ≤ place' + 2 ^ 14
   pub heads : heads' ≤ place'
 
--- The path begins with n bytes, those of the path before.
+-- The path has at least n bytes, and its first n are the first n of the path before.
 pub record Shares (n : ℕ) (before path : List ℕ) : Type 0 where
   pub within : n ≤ length path
   pub same : take n path ≡ take n before

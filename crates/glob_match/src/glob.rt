@@ -91,9 +91,9 @@ impl Glob {
         }
     }
 
-    /// Whether the whole text matches, as `matches` tells, where it begins with so many bytes (`shared`)
-    /// of the text of which `spot` tells; it then tells of this text. Of a plain pattern only what follows
-    /// those bytes is searched, with as much before it as the pattern may reach back. It takes no memory.
+    /// Whether the whole text matches, as `matches` tells, where its first `shared` bytes are those of the
+    /// text of which `spot` tells. Afterwards `spot` tells of this text. Of a plain pattern only what follows
+    /// the shared bytes is searched, and before it as much as the pattern may reach back. It takes no memory.
     #[inline(always)]
     pub fn matches_next<L: Ledger>(
         &self,

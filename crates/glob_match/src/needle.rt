@@ -64,7 +64,7 @@ impl Needle {
         self.first_from(text, 0).is_some()
     }
 
-    /// Whether the bytes stand in the text, of which `shared` bytes stand first in the one before.
+    /// Whether the bytes stand in the text, whose first `shared` bytes are those of the one before.
     #[inline(always)]
     pub(crate) fn judge(&self, text: &[u8], shared: usize, spot: &mut Spot) -> bool
         ensures known { (before : List ℕ) → Known spot.old (plain_wanted self.now.0 self.now.1) before → take shared before ≡ take shared text.now → Known spot.new (plain_wanted self.now.0 self.now.1) text.now }

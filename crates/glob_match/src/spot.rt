@@ -3,20 +3,20 @@ ghost use Rattle.std.specs.Prelude.{◌≡◌, ℕ, ◌<◌, ◌≤◌, true, Li
 ghost use Rattle.glob_match.specs.Pattern.{Wanted, InGlob};
 ghost use Rattle.glob_match.specs.Spot.{Known, Tells};
 
-/// What is known of a text on which a pattern was tried, so that of a text that begins alike only the
+/// What is known of a text on which a pattern was tried, so that of a text with the same prefix only the
 /// rest need be searched.
 #[derive(Clone, Copy, PartialEq, Eq, Debug)]
 pub enum Spot {
     /// Nothing.
     Unjudged,
-    /// No first part of the text matches.
+    /// No prefix of the text matches.
     Nowhere,
-    /// The shortest first part that matches has so many bytes, and any text that begins with it matches.
+    /// The shortest prefix that matches has so many bytes, and any text that begins with it matches.
     Ends(usize),
 }
 
-/// In how many of the first `shared` bytes no first part ends that matches, but for an empty one; none
-/// where one does end there that is known.
+/// Up to which length no prefix of the text before matches, but for an empty one: `shared`, or 0 where
+/// nothing is known. None where one is known to match that is no longer than `shared`.
 #[inline(always)]
 pub(crate) fn unmatched(spot: Spot, shared: usize) -> Option<usize>
     ensures within { IfSome result (λ quiet. quiet ≤ shared) }

@@ -23,6 +23,6 @@ spot_at spots i = get_or spots i Unjudged
 abbrev pub KnowsAll : List Spot → List Wanted → List ℕ → Type 0
 KnowsAll spots globs path = (i : ℕ) (glob : Wanted) → slice_get globs i ≡ Some glob → Known (spot_at spots i) glob path
 
--- What is kept is true of this path. Of base names nothing is kept.
+-- What is kept is true of this path. Where patterns are asked of base names, nothing is claimed.
 abbrev pub KnowsPath : Kept → List ℕ → Type 0
 KnowsPath kept path = kept.query.base ≡ false → KnowsAll kept.spots kept.query.globs path

@@ -15,8 +15,8 @@ use std::marker::Model;
 use std::sync::ledger::Ledger;
 
 /// Wants the paths that some pattern of a query matches, or every one, as the query says. A plain pattern in the case
-/// in which it is written takes no step. Of a whole path it is searched for only behind what the path shares with the one
-/// before.
+/// in which it is written takes no step. Of whole paths each of the first eight patterns, where it is plain, is searched
+/// for only where the path differs from the one before, if it was asked of that.
 #[derive(Drop)]
 pub struct GlobMatcher<'q> {
     query: &'q Query,

@@ -10,7 +10,7 @@ use crate::spots::Spots;
 use glob_match::Steps;
 use std::sync::ledger::Ledger;
 
-/// Whether every pattern matches the text, or some pattern does. So many of its bytes stand first in the text before.
+/// Whether every pattern matches the text, or some pattern does. Its first `shared` bytes are those of the text before.
 #[inline(always)]
 pub(crate) fn is_wanted_next<L: Ledger>(
     globs: &Globs,

@@ -10,7 +10,7 @@ use glob_match::{Glob, Spot, Steps};
 use std::marker::Model;
 use std::sync::ledger::Ledger;
 
-/// For so many patterns it is kept what is known.
+/// For how many patterns what is known is kept.
 const KEPT: usize = 8;
 
 /// What is known of the path in hand for each of the first patterns.
@@ -49,7 +49,7 @@ impl Spots {
         self.known = self.known.min(at);
     }
 
-    /// Whether the pattern at a place matches the text, of which so many bytes stand first in the one before.
+    /// Whether the pattern at a place matches the text, whose first `shared` bytes are those of the one before.
     #[inline(always)]
     pub(crate) fn judge<L: Ledger>(
         &mut self,

@@ -155,8 +155,8 @@ impl Mounts {
         self.index.get(path).copied()
     }
 
-    /// The length of a front of a path, than which no mount point that covers it is longer: that of the root where no mount
-    /// point has the path's second byte.
+    /// The length of a prefix of a path. No mount point that covers the path is longer. It is that of the root where no
+    /// mount point has the path's second byte.
     fn longest_front(&self, path: &[u8]) -> usize
         ensures within { result ≤ length path.now }
         ensures prefix { 0 < result → EndsPrefix path.now result }

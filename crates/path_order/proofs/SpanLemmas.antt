@@ -1,9 +1,8 @@
 -- Names that lie one after another.
-use Rattle.std.proofs.Common.{◌≡◌, ℕ, zero, suc, ◌+◌, ◌-◌, ◌<◌, ◌≤◌, List, [], ◌∷◌, ◌++◌, map, length, get_or, take, drop, refl, sym, ◌∙◌, ap, arith, length-append, length-drop, Bool, true, false, cond}
+use Rattle.std.proofs.Common.{◌≡◌, ℕ, suc, ◌+◌, ◌-◌, List, [], ◌∷◌, ◌++◌, map, length, take, drop, refl, ◌∙◌, ap, arith, length-drop, Bool, true, false, cond}
 use Rattle.std.proofs.lemmas.List.{map-append, take-append-le, drop-append-le, take_all}
 use Rattle.std.proofs.Math.Seq.{drop-append_seam}
-use Rattle.std.specs.List.{All, dedup_from, dedup}
-use Rattle.path_order.specs.declared.kind.Kind.{Kind}
+use Rattle.std.specs.List.{dedup_from, dedup}
 use Rattle.path_order.specs.declared.name_list.Span.{Span}
 use Rattle.path_order.specs.Spans.{text_at, entry_at, entries_in, IsWithin, AllWithin}
 

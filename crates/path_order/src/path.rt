@@ -2,7 +2,6 @@
 ghost use Rattle.std.specs.Prelude.{◌≡◌, ◌+◌, ◌<◌, ◌≤◌, ◌↔◌, List, ℕ, [], ◌∷◌, ◌++◌, length, take, IsOk, OnOk, OnErr};
 ghost use Rattle.path_order.specs.Path.{joined};
 
-use arrayvec::ArrayVec;
 use std::marker::Model;
 use thiserror::Error;
 
@@ -15,16 +14,22 @@ pub const MAX_PATH: usize = 4096;
 pub struct TooLong;
 
 /// The text of a path, of at most `MAX_PATH` bytes, which lie in the value itself: it is lent, not moved.
-/// A contract sees it as the list of its bytes.
+/// A contract sees it as the list of its bytes. What is cut off is not cleared: a path is cut and appended to for each
+/// entry of a database.
 #[derive(Drop)]
 pub struct PathBuf {
-    text: ArrayVec<u8, MAX_PATH>,
+    room: [u8; MAX_PATH],
+    len: usize,
 }
 
 impl Model for PathBuf {
+    ghost use Rattle.std.specs.Prelude.{◌≡◌, ◌≤◌, List, ℕ, length, take};
+
     ghost Value = { List ℕ };
 
-    ghost view = { λ path. path.text.items };
+    ghost view = { λ path. take path.len path.room };
+
+    ghost invariant = { λ path. (path.len ≤ 4096) × (length path.room ≡ 4096) };
 }
 
 impl PathBuf {
@@ -33,7 +38,8 @@ impl PathBuf {
         ensures { result ≡ [] }
     {
         PathBuf {
-            text: ArrayVec::new(),
+            room: [0; MAX_PATH],
+            len: 0,
         }
     }
 
@@ -43,7 +49,7 @@ impl PathBuf {
         ensures value { result.now ≡ self.now }
         ensures fits { length result.now ≤ 4096 }
     {
-        self.text.as_slice()
+        &self.room[..self.len]
     }
 
     /// Replaces the text by this one.
@@ -55,9 +61,8 @@ impl PathBuf {
         if text.len() > MAX_PATH {
             return Err(TooLong);
         }
-        self.text.clear();
-        let _ = self.text.try_extend_from_slice(text);
-        Ok(())
+        self.cut(0);
+        self.append(text)
     }
 
     /// Appends a byte.
@@ -67,11 +72,7 @@ impl PathBuf {
         ensures ok { OnOk result (self.new ≡ self.old ++ byte ∷ []) }
         ensures err { OnErr result (self.new ≡ self.old) }
     {
-        if self.text.is_full() {
-            return Err(TooLong);
-        }
-        self.text.push(byte);
-        Ok(())
+        self.append(&[byte])
     }
 
     /// Appends a text.
@@ -81,10 +82,11 @@ impl PathBuf {
         ensures ok { OnOk result (self.new ≡ self.old ++ text.now) }
         ensures err { OnErr result (self.new ≡ self.old) }
     {
-        if self.text.remaining_capacity() < text.len() {
+        if MAX_PATH - self.len < text.len() {
             return Err(TooLong);
         }
-        let _ = self.text.try_extend_from_slice(text);
+        write_at(&mut self.room, self.len, text);
+        self.len += text.len();
         Ok(())
     }
 
@@ -94,8 +96,18 @@ impl PathBuf {
         requires { len ≤ length self.old }
         ensures { self.new ≡ take len self.old }
     {
-        self.text.truncate(len);
+        self.len = len;
     }
+}
+
+/// Writes a text over the bytes from a place on.
+#[inline(always)]
+fn write_at(bytes: &mut [u8], at: usize, text: &[u8])
+    requires { at + length text.now ≤ length bytes.old }
+    ensures len { length bytes.new ≡ length bytes.old }
+    ensures front { take (at + length text.now) bytes.new ≡ take at bytes.old ++ text.now }
+{
+    bytes[at..at + text.len()].copy_from_slice(text);
 }
 
 /// Makes the path of a directory that of the name in it: a `/` is put between them, unless the directory is `/`.
@@ -107,14 +119,13 @@ pub fn join(path: &mut PathBuf, name: &[u8]) -> Result<(), TooLong>
 {
     let slash = !matches!(path.bytes(), [b'/']);
     let added = name.len() + usize::from(slash);
-    if path.text.remaining_capacity() < added {
+    if MAX_PATH - path.bytes().len() < added {
         return Err(TooLong);
     }
     if slash {
-        path.text.push(b'/');
+        path.push_byte(b'/')?;
     }
-    let _ = path.text.try_extend_from_slice(name);
-    Ok(())
+    path.append(name)
 }
 
 #[cfg(test)]

@@ -39,7 +39,8 @@ impl Row {
         self.leaving.next_place(text, from)
     }
 
-    /// What follows on a byte. To look it up counts as one step, and there is no other way to learn it.
+    /// What follows on a byte. To look it up counts as one step. Without a step only `next_place` tells of bytes: of those
+    /// on which the set stays.
     #[inline(always)]
     pub(crate) fn after<L: Ledger>(&self, byte: u8, steps: &mut Steps<L>) -> u8
         ensures value { result ≡ slice_index self.now.next byte }

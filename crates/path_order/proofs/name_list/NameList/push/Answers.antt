@@ -1,4 +1,4 @@
-use Rattle.std.proofs.Common.{◌≡◌, ◌+◌, List, [], ◌∷◌, ◌++◌, length, ◌∙◌, ap, arith, length-append, OnErr, Result, Ok, Err, ℕ}
+use Rattle.std.proofs.Common.{[], ◌∷◌, ◌++◌, length, ◌∙◌, ap, arith, length-append, OnErr, Result, Ok, Err}
 use Rattle.path_order.specs.declared.name_list.Span.{Span}
 use Rattle.path_order.specs.NameList.{Listed}
 use Rattle.path_order.specs.Spans.{entries_in}
