@@ -9,7 +9,6 @@ mod ReadBack
 mod Refused
 mod Example
 mod Comparing
-mod NameStarts
 mod NextAdmitted
 mod RunPlaces
 mod Sorting

@@ -11,7 +11,7 @@ use Rattle.std.proofs.lemmas.List.Folds.{list_all-append}
 use Rattle.std.proofs.lemmas.List.Splits.{length-slice_split, slice_split_none, slice_split-cons_yes, slice_split-cons_no}
 use Rattle.path_order.specs.Names.{is_name}
 use Rattle.path_order.specs.Path.{is_slash, is_root, is_normal}
-use Rattle.db_convert.specs.NameStarts.{IsNameStart}
+use Rattle.path_order.specs.NameStarts.{IsNameStart}
 use Rattle.db_convert.proofs.Directories.{first, second}
 
 -- ---- a text is split at each slash

@@ -3,7 +3,6 @@ pub mod Blocks
 pub mod Conversion
 pub mod Converts
 pub mod Example
-pub mod NameStarts
 pub mod Orders
 pub mod Plans
 pub mod Reading

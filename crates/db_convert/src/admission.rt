@@ -4,11 +4,10 @@ ghost use Rattle.std.specs.List.{list_any};
 ghost use Rattle.db_convert.specs.declared.format.Format.TheVariants.{Mlocate};
 ghost use Rattle.db_convert.specs.Admission.{is_admitted as admitted, refusal as refusal_of, first_refused as refused_first};
 
-use crate::entry::name_start;
 use crate::format::{AdmitCause, Format};
 use crate::paths::Paths;
 use memchr::memchr;
-use path_order::{MAX_PATH, is_name, is_normal};
+use path_order::{MAX_PATH, base_start, is_name, is_normal};
 
 /// Whether the format can hold the path, which is one that a reader gives.
 pub fn is_admitted(to: Format, path: &[u8]) -> bool
@@ -37,7 +36,7 @@ fn is_admitted_behind(before: &[u8], path: &[u8]) -> bool
     requires { admitted Mlocate before.now ≡ true }
     ensures { result ≡ admitted Mlocate path.now }
 {
-    let start = name_start(path);
+    let start = base_start(path);
     if start == 0 || before.len() < start || before[..start] != path[..start] {
         return is_admitted(Format::Mlocate, path);
     }

@@ -4,41 +4,18 @@ ghost use Rattle.std.specs.Ordering.{eq_by_cmp};
 ghost use Rattle.std.specs.Str.{bytes_eq};
 ghost use Rattle.path_order.specs.Order.{path_cmp};
 ghost use Rattle.path_order.specs.Path.{parent_of, base_of};
-ghost use Rattle.db_convert.specs.NameStarts.{IsNameStart};
 ghost use Rattle.db_convert.specs.Blocks.{byte_cmp, entry_of, entry_cmp};
 
 use byte_feed::common_prefix;
-use memchr::memrchr;
-use path_order::compare_paths;
+use path_order::{base_start, compare_paths};
 use std::cmp::Ordering;
-
-/// The place after the last slash, or 0.
-#[inline(always)]
-fn after_slash(path: &[u8]) -> usize
-    ensures { IsNameStart path.now result }
-{
-    match memrchr(b'/', path) {
-        Some(slash) => slash + 1,
-        None => 0,
-    }
-}
-
-/// Where the path's name begins: the place after the last slash, or 0.
-#[inline(always)]
-pub(crate) fn name_start(path: &[u8]) -> usize
-    ensures start { IsNameStart path.now result }
-    ensures base { drop result path.now ≡ base_of path.now }
-    ensures place { result + length (base_of path.now) ≡ length path.now }
-{
-    after_slash(path)
-}
 
 /// The path's directory: what stands before its last slash, or the root where that is nothing.
 #[inline(always)]
 pub(crate) fn parent(path: &[u8]) -> &[u8]
     ensures { result.now ≡ parent_of path.now }
 {
-    let start = name_start(path);
+    let start = base_start(path);
     if start > 1 { &path[..start - 1] } else { b"/" }
 }
 
@@ -47,7 +24,7 @@ pub(crate) fn parent(path: &[u8]) -> &[u8]
 pub(crate) fn base(path: &[u8]) -> &[u8]
     ensures { result.now ≡ base_of path.now }
 {
-    &path[name_start(path)..]
+    &path[base_start(path)..]
 }
 
 /// Compares two texts in path order. What both begin with is skipped in blocks.

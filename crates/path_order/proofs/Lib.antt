@@ -1,4 +1,4 @@
-mod BaseLemmas
+mod NameStarts
 pub mod NamesOrder
 pub mod OrderLemmas
 pub mod ParentLemmas

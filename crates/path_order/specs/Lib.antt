@@ -1,4 +1,5 @@
 pub mod NameList
+pub mod NameStarts
 pub mod Names
 pub mod Order
 pub mod Path

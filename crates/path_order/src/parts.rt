@@ -1,10 +1,12 @@
 //! Names, and the parts of a path.
 ghost use Rattle.std.specs.Prelude.{◌≡◌, ◌+◌, ◌<◌, ◌≤◌, IsTrue, false, length, take, drop};
 ghost use Rattle.path_order.specs.Names.{is_name as names};
+ghost use Rattle.path_order.specs.NameStarts.{IsNameStart};
 ghost use Rattle.std.specs.List.{list_all, slice_split};
 ghost use Rattle.path_order.specs.Path.{is_root, is_slash, is_normal as normal, base_of, parent_of};
 
 use crate::MAX_PATH;
+use memchr::memrchr;
 
 /// Whether the text names something in a directory: it has a byte, holds neither `/` nor byte 0, and is neither `.` nor `..`.
 pub fn is_name(text: &[u8]) -> bool
@@ -35,16 +37,25 @@ fn are_names(text: &[u8]) -> bool
     text.split(|byte| *byte == b'/').all(is_name)
 }
 
+/// The place after the last `/`, or 0.
+#[inline(always)]
+fn after_slash(path: &[u8]) -> usize
+    ensures { IsNameStart path.now result }
+{
+    match memrchr(b'/', path) {
+        Some(slash) => slash + 1,
+        None => 0,
+    }
+}
+
 /// Where the base name begins: the place after the last `/`, or 0.
+#[inline(always)]
 pub fn base_start(path: &[u8]) -> usize
+    ensures start { IsNameStart path.now result }
     ensures base { drop result path.now ≡ base_of path.now }
     ensures place { result + length (base_of path.now) ≡ length path.now }
 {
-    let mut start = path.len();
-    while start > 0 && path[start - 1] != b'/' {
-        start -= 1;
-    }
-    start
+    after_slash(path)
 }
 
 /// The length of the parent's text, of a normal path other than `/`. It is 1 for `/a`.

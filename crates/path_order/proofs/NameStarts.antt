@@ -3,7 +3,7 @@ use Rattle.std.proofs.Common.{◌≡◌, ℕ, ◌+◌, ◌-◌, List, not, lengt
 use Rattle.std.proofs.lemmas.List.Sums.{suffix_len_is}
 use Rattle.std.specs.List.{suffix_len}
 use Rattle.path_order.specs.Path.{is_slash, base_of}
-use Rattle.db_convert.specs.NameStarts.{IsNameStart}
+use Rattle.path_order.specs.NameStarts.{IsNameStart}
 
 pub name_from : (path : List ℕ) (start : ℕ) → IsNameStart path start → drop start path ≡ base_of path
 name_from path start is =
