@@ -1,5 +1,5 @@
 //! Which paths a format can hold.
-ghost use Rattle.std.specs.Prelude.{◌≡◌, ◌==◌, ◌<◌, ◌-◌, true, [], length, slice_index_or};
+ghost use Rattle.std.specs.Prelude.{◌≡◌, ℕ, List, ◌==◌, ◌<◌, ◌-◌, true, [], length, slice_index_or};
 ghost use Rattle.std.specs.List.{list_any};
 ghost use Rattle.db_convert.specs.declared.format.Format.TheVariants.{Mlocate};
 ghost use Rattle.db_convert.specs.Admission.{is_admitted as admitted, refusal as refusal_of, first_refused as refused_first};
@@ -67,10 +67,26 @@ fn refusal(to: Format) -> AdmitCause
     }
 }
 
+/// Whether the format is one that can hold every path.
+fn holds_all(to: Format) -> bool
+    ensures { result ≡ true → (path : List ℕ) → admitted to path ≡ true }
+{
+    match to {
+        Format::List => false,
+        Format::Mlocate => false,
+        Format::Locate02 => true,
+        Format::Bigram => true,
+        Format::List0 => true,
+    }
+}
+
 /// The first path that the format can't hold, by its place from 0, and why. `None` where it can hold all.
 pub fn first_refused(to: Format, paths: &Paths) -> Option<(usize, AdmitCause)>
     ensures { result ≡ refused_first to paths.now }
 {
+    if holds_all(to) {
+        return None;
+    }
     'paths: for at in 0..paths.len() {
         if !is_admitted_at(to, paths, at) {
             return Some((at, refusal(to)));

@@ -27,11 +27,29 @@ pub(crate) fn base(path: &[u8]) -> &[u8]
     &path[base_start(path)..]
 }
 
+/// The path's directory and its name.
+#[inline(always)]
+pub(crate) fn split(path: &[u8]) -> (&[u8], &[u8])
+    ensures dir { result.0.now ≡ parent_of path.now }
+    ensures name { result.1.now ≡ base_of path.now }
+{
+    let start = base_start(path);
+    let dir = if start > 1 {
+        &path[..start - 1]
+    } else {
+        b"/".as_slice()
+    };
+    (dir, &path[start..])
+}
+
 /// Compares two texts in path order. What both begin with is skipped in blocks.
 #[inline(always)]
 pub(crate) fn compare_directories(a: &[u8], b: &[u8]) -> Ordering
     ensures { result ≡ path_cmp a.now b.now }
 {
+    if a == b {
+        return Ordering::Equal;
+    }
     let same = common_prefix(a, b);
     compare_paths(&a[same..], &b[same..])
 }
@@ -50,8 +68,10 @@ pub(crate) fn compare_names(a: &[u8], b: &[u8]) -> Ordering
 pub(crate) fn compare_entries(a: &[u8], b: &[u8]) -> Ordering
     ensures { result ≡ entry_cmp (entry_of a.now) (entry_of b.now) }
 {
-    match compare_directories(parent(a), parent(b)) {
-        Ordering::Equal => compare_names(base(a), base(b)),
+    let (a_dir, a_name) = split(a);
+    let (b_dir, b_name) = split(b);
+    match compare_directories(a_dir, b_dir) {
+        Ordering::Equal => compare_names(a_name, b_name),
         other => other,
     }
 }
@@ -61,5 +81,7 @@ pub(crate) fn compare_entries(a: &[u8], b: &[u8]) -> Ordering
 pub(crate) fn is_same_entry(a: &[u8], b: &[u8]) -> bool
     ensures { result ≡ eq_by_cmp entry_cmp (entry_of a.now) (entry_of b.now) }
 {
-    base(a) == base(b) && parent(a) == parent(b)
+    let (a_dir, a_name) = split(a);
+    let (b_dir, b_name) = split(b);
+    a_name == b_name && a_dir == b_dir
 }

@@ -17,7 +17,7 @@ ghost use Rattle.db_convert.specs.Orders.{IsOrder, entry_at};
 ghost use Rattle.db_convert.specs.Turns.{closing, head_item, items_from, open_at, opening, turn};
 ghost use Rattle.db_convert.specs.Plans.{IsPlan};
 
-use crate::entry::{base, parent};
+use crate::entry::{parent, split};
 use crate::order::order_of;
 use crate::paths::Paths;
 use crate::seek::{kind_at, seek};
@@ -110,9 +110,10 @@ fn put_turn<K: Sink>(
     ensures kept { K.kept sink.old sink.new }
 {
     let path = paths.get(places[at]);
-    put_opening(sink, paths, places, at, parent(path))?;
+    let (dir, name) = split(path);
+    put_opening(sink, paths, places, at, dir)?;
     let place = seek(paths, places, path, near);
-    put_entry(sink, kind_at(paths, places, path, place), base(path))?;
+    put_entry(sink, kind_at(paths, places, path, place), name)?;
     Ok(place)
 }
 

@@ -192,6 +192,9 @@ pub(crate) fn order_of(alloc: Global, paths: &Paths) -> Result<Vec<usize>, Alloc
         return Ok(places);
     }
     sort_directories(alloc, paths, &mut places)?;
+    if is_in_order(paths, &places) {
+        return Ok(places);
+    }
     sort_places(paths, &mut places)?;
     drop_repeats(paths, &mut places);
     Ok(places)

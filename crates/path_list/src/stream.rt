@@ -9,7 +9,7 @@ ghost use Rattle.path_list.specs.Streams.{PathKnown};
 
 use byte_feed::{Break, DamageCause, Feed, FeedFault, Stop};
 use loc_outside::Source;
-use memchr::memchr;
+use memchr::{memchr, memchr2};
 use path_order::PathBuf;
 
 /// Puts the next path in place of the one before; false where the file has ended.
@@ -49,10 +49,28 @@ fn is_plain(mark: u8, text: &[u8]) -> bool
     mark == 0 || memchr(0, text).is_none()
 }
 
-/// The length of the text before the first mark, where that has no zero byte. One search for either byte would take longer
-/// than two: the library's search for two bytes is slow over short texts.
+/// Most paths end in so many bytes. The library's search for two bytes is fast in so few, and slow in many.
+const NEAR: usize = 128;
+
+/// The length of the text before the first mark, where that comes soon and no zero byte comes before it.
 #[inline(always)]
-fn len_before(mark: u8, bytes: &[u8]) -> Option<usize>
+fn len_near(mark: u8, bytes: &[u8]) -> Option<usize>
+    ensures mark { IfSome result (λ n. (n < length bytes.now) × (slice_index bytes.now n ≡ mark)) }
+    ensures bare { IfSome result (λ n. All (λ b. b ≢ mark) (take n bytes.now)) }
+    ensures plain { IfSome result (λ n. All (λ b. 0 < b) (take n bytes.now)) }
+{
+    let near = &bytes[..bytes.len().min(NEAR)];
+    let Some(len) = memchr2(mark, 0, near) else {
+        return None;
+    };
+    if near[len] != mark {
+        return None;
+    }
+    Some(len)
+}
+
+/// The same of a mark anywhere.
+fn len_far(mark: u8, bytes: &[u8]) -> Option<usize>
     ensures mark { IfSome result (λ n. (n < length bytes.now) × (slice_index bytes.now n ≡ mark)) }
     ensures bare { IfSome result (λ n. All (λ b. b ≢ mark) (take n bytes.now)) }
     ensures plain { IfSome result (λ n. All (λ b. 0 < b) (take n bytes.now)) }
@@ -64,6 +82,19 @@ fn len_before(mark: u8, bytes: &[u8]) -> Option<usize>
         return Some(len);
     }
     None
+}
+
+/// The length of the text before the first mark, where that has no zero byte.
+#[inline(always)]
+fn len_before(mark: u8, bytes: &[u8]) -> Option<usize>
+    ensures mark { IfSome result (λ n. (n < length bytes.now) × (slice_index bytes.now n ≡ mark)) }
+    ensures bare { IfSome result (λ n. All (λ b. b ≢ mark) (take n bytes.now)) }
+    ensures plain { IfSome result (λ n. All (λ b. 0 < b) (take n bytes.now)) }
+{
+    match len_near(mark, bytes) {
+        Some(len) => Some(len),
+        None => len_far(mark, bytes),
+    }
 }
 
 /// Appends a path that is held with its mark, and hands both out. Where no such path is held, nothing changes.

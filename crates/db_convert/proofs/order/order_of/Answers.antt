@@ -37,6 +37,10 @@ pub returns-then-is_in_order : goal.returns-then-is_in_order
 returns-then-is_in_order c =
     as_it_is c.args.paths.now _ c.in_ok-places.ensures (subst (λ (l : List ℕ). Rises c.args.paths.now l (length l)) c.deref.ensures.value (c.is_in_order.ensures c.if-is_in_order.true))
 
+pub returns-then-is_in_order-2 : goal.returns-then-is_in_order-2
+returns-then-is_in_order-2 c =
+    as_it_is c.args.paths.now _ (has_moved _ _ (length c.args.paths.now) c.in_ok-places.ensures c.sort_directories.ensures) (subst (λ (l : List ℕ). Rises c.args.paths.now l (length l)) c.deref-2.ensures.value (c.is_in_order-2.ensures c.if-is_in_order-2.true))
+
 pub returns : goal.returns
 returns c =
     ordered c.args.paths.now _ _ _ (has_moved _ _ (length c.args.paths.now) c.in_ok-places.ensures c.sort_directories.ensures) c.in_ok-sort_places.ensures.same c.in_ok-sort_places.ensures.sorted c.drop_repeats.ensures
