@@ -47,9 +47,6 @@ pub(crate) fn split(path: &[u8]) -> (&[u8], &[u8])
 pub(crate) fn compare_directories(a: &[u8], b: &[u8]) -> Ordering
     ensures { result ≡ path_cmp a.now b.now }
 {
-    if a == b {
-        return Ordering::Equal;
-    }
     let same = common_prefix(a, b);
     compare_paths(&a[same..], &b[same..])
 }
@@ -63,13 +60,17 @@ pub(crate) fn compare_names(a: &[u8], b: &[u8]) -> Ordering
     a[same..].cmp(&b[same..])
 }
 
-/// Compares two paths by their directories in path order, and by their names where these are equal.
+/// Compares two paths by their directories in path order, and by their names where these are equal. Most paths that are
+/// compared have the same directory.
 #[inline(always)]
 pub(crate) fn compare_entries(a: &[u8], b: &[u8]) -> Ordering
     ensures { result ≡ entry_cmp (entry_of a.now) (entry_of b.now) }
 {
     let (a_dir, a_name) = split(a);
     let (b_dir, b_name) = split(b);
+    if a_dir == b_dir {
+        return compare_names(a_name, b_name);
+    }
     match compare_directories(a_dir, b_dir) {
         Ordering::Equal => compare_names(a_name, b_name),
         other => other,
