@@ -3,7 +3,7 @@ use Rattle.std.proofs.Common.{◌≡◌, ℕ, suc, ◌+◌, ◌-◌, ◌<◌, �
 use Rattle.std.specs.Char.{to_ascii_lowercase, to_ascii_uppercase}
 use Rattle.std.specs.Str.{bytes_eq}
 use Rattle.std.proofs.lemmas.Bool.{cases_lt, eqb-true, eq-eqb, or_cases, or_left, or_right}
-use Rattle.std.proofs.lemmas.List.{length-map, get_or-drop, get_or-take, take-take, take_rest, drop-take}
+use Rattle.std.proofs.lemmas.List.{length-map, drop-drop, get_or-drop, get_or-take, take-take, take_rest, drop-take}
 use Rattle.std.proofs.lemmas.Slice.Eq.{bytes_eq-Decides}
 use Rattle.std.proofs.lemmas.Str.Ascii.{lowercase_is, uppercase_is, lowercase-lowercase, lowercase-uppercase}
 use Rattle.std.proofs.Math.ListN.{get_or-map}
@@ -102,6 +102,21 @@ stands-fits false bytes text place some h = h.fits
 stands-fits true bytes text place some h =
     let len : length (take (length bytes) (drop place text)) ≡ length bytes = sym (length-map (take (length bytes) (drop place text)) to_ascii_lowercase) ∙ ap length h ∙ length-map bytes to_ascii_lowercase in
     omega (arith, len, length-take (length bytes) (drop place text), length-drop place text)
+
+-- they stand in what a text has from a place on where they stand in the text
+pub stands-drop : (fold : Bool) (bytes text : List ℕ) (from place : ℕ) → Stands fold bytes text (from + place) → Stands fold bytes (drop from text) place
+stands-drop true bytes text from place h = ap (λ (l : List ℕ). map to_ascii_lowercase (take (length bytes) l)) (drop-drop place from text) ∙ h
+stands-drop false bytes text from place h = record {
+  fits = omega (arith, h.fits, length-drop from text);
+  reads = λ j l. get_or-drop from text (place + j) 0 ∙ ap (λ (k : ℕ). get_or text k 0) {x = from + (place + j)} {y = from + place + j} (omega arith) ∙ h.reads j l;
+}
+
+pub stands-undrop : (fold : Bool) (bytes text : List ℕ) (from place : ℕ) → from ≤ length text → Stands fold bytes (drop from text) place → Stands fold bytes text (from + place)
+stands-undrop true bytes text from place within h = ap (λ (l : List ℕ). map to_ascii_lowercase (take (length bytes) l)) (sym (drop-drop place from text)) ∙ h
+stands-undrop false bytes text from place within h = record {
+  fits = omega (arith, h.fits, within, length-drop from text);
+  reads = λ j l. ap (λ (k : ℕ). get_or text k 0) {x = from + place + j} {y = from + (place + j)} (omega arith) ∙ sym (get_or-drop from text (place + j) 0) ∙ h.reads j l;
+}
 
 -- they stand in each text that is the same up to their end
 part-alike : (len place : ℕ) (text other : List ℕ) → take (place + len) other ≡ take (place + len) text → take len (drop place other) ≡ take len (drop place text)

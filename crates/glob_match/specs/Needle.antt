@@ -1,5 +1,5 @@
 -- Where bytes stand in a text, as they are or but for the case of ASCII letters.
-use Rattle.std.specs.Prelude.{◌≡◌, ℕ, ◌+◌, ◌<◌, Bool, true, false, List, [], ◌∷◌, ◌++◌, length, take, drop, map}
+use Rattle.std.specs.Prelude.{◌≡◌, ℕ, ◌+◌, ◌<◌, ◌≤◌, Bool, true, false, List, [], ◌∷◌, ◌++◌, length, take, drop, map}
 use Rattle.std.specs.Char.{to_ascii_lowercase}
 use Rattle.memchr.specs.Find.{OccursAt, Passes, is_byte2}
 use Rattle.glob_match.specs.Item.{Star}
@@ -14,6 +14,10 @@ Stands false bytes text place = OccursAt text bytes place
 -- it does so from some place on
 abbrev pub Occurs : Bool → List ℕ → List ℕ → Type 0
 Occurs fold bytes text = (place : ℕ) × Stands fold bytes text place
+
+-- it does so from some place on that is not before this one
+abbrev pub StandsFrom : Bool → List ℕ → List ℕ → ℕ → Type 0
+StandsFrom fold bytes text from = (place : ℕ) × (from ≤ place) × Stands fold bytes text place
 
 -- what a plain pattern asks
 abbrev pub plain_wanted : Bool → List ℕ → Wanted

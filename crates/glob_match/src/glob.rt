@@ -1,5 +1,5 @@
 //! Patterns of the shell.
-ghost use Rattle.std.specs.Prelude.{◌≡◌, ℕ, ◌+◌, ◌*◌, ◌≤◌, ◌↔◌, List, length, take, IsTrue, IsSome, IfOk};
+ghost use Rattle.std.specs.Prelude.{◌≡◌, ℕ, ◌+◌, ◌*◌, ◌≤◌, ◌↔◌, List, length, take, drop, IsTrue, IsSome, IfOk};
 ghost use Rattle.std.specs.Option.{option_copied};
 ghost use Rattle.glob_match.specs.Pattern.{wanted, items_of, plain_of, InGlob};
 ghost use Rattle.glob_match.specs.Spot.{Known};
@@ -88,6 +88,22 @@ impl Glob {
                 Some(needle) => needle.occurs_in(text),
                 None => matches_items(&self.items, text, steps),
             },
+        }
+    }
+
+    /// Whether what the text has from a place on matches, as `matches` tells. Of a plain pattern the whole text is looked at
+    /// where that is faster. It takes no memory.
+    #[inline(always)]
+    pub fn matches_from<L: Ledger>(&self, text: &[u8], from: usize, steps: &mut Steps<L>) -> bool
+        requires { from ≤ length text.now }
+        ensures value { IsTrue result ↔ InGlob self.now (drop from text.now) }
+        ensures rising { steps.old ≤ steps.new }
+        ensures bound { steps.new ≤ steps.old + 2 * (length (items_of self.now) + 1) * (length (drop from text.now) + 1) }
+        ensures plain { IsSome (plain_of self.now) → steps.new ≡ steps.old }
+    {
+        match &self.needle {
+            Some(needle) => needle.occurs_from(text, from),
+            None => self.matches(&text[from..], steps),
         }
     }
 

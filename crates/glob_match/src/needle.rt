@@ -1,9 +1,9 @@
 //! Bytes that are looked for, as they are or in either case.
-ghost use Rattle.std.specs.Prelude.{◌≡◌, ℕ, ◌+◌, ◌<◌, ◌≤◌, ◌↔◌, Bool, true, false, List, length, take, slice_index, IsTrue, IsNone, IfOk, IfSome, MatchOption};
+ghost use Rattle.std.specs.Prelude.{◌≡◌, ℕ, ◌+◌, ◌<◌, ◌≤◌, ◌↔◌, Bool, true, false, List, length, take, drop, slice_index, IsTrue, IsNone, IfOk, IfSome, MatchOption};
 ghost use Rattle.std.specs.Char.{to_ascii_lowercase, to_ascii_uppercase};
 ghost use Rattle.memchr.specs.Find.{Nowhere as NoPlace, IsFirst, IsFirstByte, is_byte2};
 ghost use Rattle.glob_match.specs.Pattern.{Wanted, InGlob};
-ghost use Rattle.glob_match.specs.Needle.{Stands, Occurs, plain_wanted};
+ghost use Rattle.glob_match.specs.Needle.{Stands, StandsFrom, Occurs, plain_wanted};
 ghost use Rattle.glob_match.specs.Spot.{Known, Tells};
 
 use crate::spot::{Spot, unmatched};
@@ -64,6 +64,30 @@ impl Needle {
         self.first_from(text, 0).is_some()
     }
 
+    /// Whether the bytes stand in what the text has from a place on.
+    #[inline(always)]
+    pub(crate) fn occurs_from(&self, text: &[u8], from: usize) -> bool
+        requires { from ≤ length text.now }
+        ensures { IsTrue result ↔ Occurs self.now.0 self.now.1 (drop from text.now) }
+    {
+        if self.bytes.is_empty() {
+            return true;
+        }
+        match self.near(text, from) {
+            Some(near) => self.stands_from(text, near),
+            None => false,
+        }
+    }
+
+    /// Whether the bytes stand in the text at a place that is not before this one.
+    #[inline(never)]
+    fn stands_from(&self, text: &[u8], from: usize) -> bool
+        requires { 0 < length self.now.1 }
+        ensures { IsTrue result ↔ StandsFrom self.now.0 self.now.1 text.now from }
+    {
+        self.first_from(text, from).is_some()
+    }
+
     /// Whether the bytes stand in the text, whose first `shared` bytes are those of the one before.
     #[inline(always)]
     pub(crate) fn judge(&self, text: &[u8], shared: usize, spot: &mut Spot) -> bool
@@ -87,6 +111,7 @@ impl Needle {
     fn near(&self, text: &[u8], first: usize) -> Option<usize>
         requires { first ≤ length text.now + 1 }
         ensures some { IsNone result → 0 < length self.now.1 }
+        ensures from { IfSome result (λ from. first ≤ from) }
         ensures near { MatchOption result (NoPlace (Stands self.now.0 self.now.1 text.now) first (length text.now + 1)) (λ from. NoPlace (Stands self.now.0 self.now.1 text.now) first from) }
     {
         if self.bytes.is_empty() {

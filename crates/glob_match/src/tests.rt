@@ -4,7 +4,7 @@
 //! with an unknown class matches by what stands before that class alone; a `-` before a class makes
 //! a range up to `[`; an unclosed bracket that ends in `a-` matches nothing; and with folding a
 //! range is read in lower case, ends and byte, and a class is not folded.
-ghost use Rattle.std.specs.Prelude.{◌≡◌, ◌+◌, ◌<◌, ◌≤◌};
+ghost use Rattle.std.specs.Prelude.{◌≡◌, ◌+◌, ◌<◌, ◌≤◌, length};
 
 use crate::glob::Glob;
 use byte_class::Steps;
@@ -227,6 +227,55 @@ nn | \
 ny x1-y_z X1-Y_Z
 nn 0 P
 nn / O";
+
+fn counted_from<L: Ledger>(blank: Blank, glob: &Glob, text: &[u8], from: usize) -> bool
+    requires name { blank.name ≡ L.name }
+    requires parts { blank.parts ≡ L.parts }
+    requires some { 0 < L.parts }
+    requires within { from ≤ length text.now }
+{
+    let mut steps = Steps::<L>::new(blank);
+    glob.matches_from(text, from, &mut steps)
+}
+
+fn is_match_from(glob: &Glob, text: &[u8], from: usize) -> bool {
+    if from > text.len() {
+        return false;
+    }
+    counted_from::<Brand>(Blank::new(1), glob, text, from)
+}
+
+#[test]
+fn matches_from_a_place(rt: HostRuntime) -> Result<(), Fail> {
+    // A needle from 15 on, and one from 36 on.
+    let text = b"/usr/share/doc/needlework/changelog/needle.txt".as_slice();
+    for (pattern, fold, from, wanted) in [
+        (b"needle".as_slice(), false, 0, true),
+        (b"needle".as_slice(), false, 15, true),
+        (b"needle".as_slice(), false, 16, true),
+        (b"needle".as_slice(), false, 36, true),
+        (b"needle".as_slice(), false, 37, false),
+        (b"work".as_slice(), false, 21, true),
+        (b"work".as_slice(), false, 22, false),
+        (b"work".as_slice(), false, 36, false),
+        (b"NEEDLE".as_slice(), false, 36, false),
+        (b"NEEDLE".as_slice(), true, 36, true),
+        (b"NEEDLE".as_slice(), true, 37, false),
+        (b".txt".as_slice(), false, 42, true),
+        (b".txt".as_slice(), false, 43, false),
+        (b"".as_slice(), false, 46, true),
+        (b"*.txt".as_slice(), false, 36, true),
+        (b"needle*".as_slice(), false, 36, true),
+        (b"needle*".as_slice(), false, 35, false),
+    ] {
+        let glob = Glob::read(rt.alloc(), pattern, fold)?;
+        assert_eq!(rt; is_match_from(&glob, text, from), wanted);
+    }
+    let glob = Glob::read(rt.alloc(), b"lib", false)?;
+    assert!(rt; is_match_from(&glob, b"/lib", 1));
+    assert!(rt; !is_match_from(&glob, b"/lib", 2));
+    Ok(())
+}
 
 #[test]
 fn matches_folded(rt: HostRuntime) -> Result<(), Fail> {

@@ -1,5 +1,5 @@
 //! The paths that the patterns of a query want.
-ghost use Rattle.std.specs.Prelude.{◌≡◌, ◌+◌, ◌≤◌, ◌↔◌, IsTrue, sum_by};
+ghost use Rattle.std.specs.Prelude.{◌≡◌, ◌+◌, ◌≤◌, ◌↔◌, IsTrue, drop, length, sum_by};
 ghost use Rattle.std.specs.List.{list_all, list_any};
 ghost use Rattle.locate_engine.specs.Globs.{judged, in_glob, wanted_by, wanted, Wants, sought_of, steps_of};
 ghost use Rattle.locate_engine.specs.Kept.{fresh, KnowsPath};
@@ -50,8 +50,8 @@ impl Matcher for GlobMatcher<'_> {
 
     #[inline(always)]
     fn wants<L: Ledger>(&mut self, path: &[u8], steps: &mut Steps<L>) -> bool {
-        let text = judged_text(self.query.base, path);
-        is_wanted(&self.query.globs, self.query.all, text, steps)
+        let from = judged_from(self.query.base, path);
+        is_wanted(&self.query.globs, self.query.all, path, from, steps)
     }
 
     fn begin(&mut self) {
@@ -62,8 +62,8 @@ impl Matcher for GlobMatcher<'_> {
     fn wants_next<L: Ledger>(&mut self, path: &[u8], shared: usize, steps: &mut Steps<L>) -> bool {
         let query = self.query;
         if query.base {
-            let base = judged_text(true, path);
-            return is_wanted(&query.globs, query.all, base, steps);
+            let from = judged_from(true, path);
+            return is_wanted(&query.globs, query.all, path, from, steps);
         }
         is_wanted_next(
             &query.globs,
@@ -81,65 +81,73 @@ pub fn wanted_is_matched(_query: &Query, _path: &[u8])
     ensures { IsTrue (wanted _query.now _path.now) ↔ Wants _query.now _path.now }
 {}
 
-/// The text that the patterns are asked of.
+/// From which place on a path is judged.
 #[inline(always)]
-fn judged_text(base: bool, path: &[u8]) -> &[u8]
-    ensures { result.now ≡ judged base path.now }
+fn judged_from(base: bool, path: &[u8]) -> usize
+    ensures judged { drop result path.now ≡ judged base path.now }
+    ensures within { result ≤ length path.now }
 {
-    if base {
-        return &path[base_start(path)..];
-    }
-    path
+    if base { base_start(path) } else { 0 }
 }
 
-/// Whether every pattern matches the text, or some pattern does.
+/// Whether every pattern matches what the path has from a place on, or some pattern does.
 #[inline(always)]
-fn is_wanted<L: Ledger>(globs: &Globs, all: bool, text: &[u8], steps: &mut Steps<L>) -> bool
-    ensures value { result ≡ wanted_by globs.now all text.now }
+fn is_wanted<L: Ledger>(
+    globs: &Globs,
+    all: bool,
+    path: &[u8],
+    from: usize,
+    steps: &mut Steps<L>,
+) -> bool
+    requires { from ≤ length path.now }
+    ensures value { result ≡ wanted_by globs.now all (drop from path.now) }
     ensures later { steps.old ≤ steps.new }
-    ensures within { steps.new ≤ steps.old + sum_by (steps_of text.now) globs.now }
+    ensures within { steps.new ≤ steps.old + sum_by (steps_of (drop from path.now)) globs.now }
 {
     if all {
-        return all_match(globs, text, steps);
+        return all_match(globs, path, from, steps);
     }
-    any_matches(globs, text, steps)
+    any_matches(globs, path, from, steps)
 }
 
-/// Whether every pattern matches the text.
-fn all_match<L: Ledger>(globs: &Globs, text: &[u8], steps: &mut Steps<L>) -> bool
-    ensures value { result ≡ list_all (λ glob. in_glob glob text.now) globs.now }
+/// Whether every pattern matches.
+fn all_match<L: Ledger>(globs: &Globs, path: &[u8], from: usize, steps: &mut Steps<L>) -> bool
+    requires { from ≤ length path.now }
+    ensures value { result ≡ list_all (λ glob. in_glob glob (drop from path.now)) globs.now }
     ensures later { steps.old ≤ steps.new }
-    ensures within { steps.new ≤ steps.old + sum_by (steps_of text.now) globs.now }
+    ensures within { steps.new ≤ steps.old + sum_by (steps_of (drop from path.now)) globs.now }
 {
     for at in 0..globs.len() {
-        if !matches(globs.at(at), text, steps) {
+        if !matches(globs.at(at), path, from, steps) {
             return false;
         }
     }
     true
 }
 
-/// Whether some pattern matches the text.
+/// Whether some pattern matches.
 #[inline(always)]
-fn any_matches<L: Ledger>(globs: &Globs, text: &[u8], steps: &mut Steps<L>) -> bool
-    ensures value { result ≡ list_any (λ glob. in_glob glob text.now) globs.now }
+fn any_matches<L: Ledger>(globs: &Globs, path: &[u8], from: usize, steps: &mut Steps<L>) -> bool
+    requires { from ≤ length path.now }
+    ensures value { result ≡ list_any (λ glob. in_glob glob (drop from path.now)) globs.now }
     ensures later { steps.old ≤ steps.new }
-    ensures within { steps.new ≤ steps.old + sum_by (steps_of text.now) globs.now }
+    ensures within { steps.new ≤ steps.old + sum_by (steps_of (drop from path.now)) globs.now }
 {
     for at in 0..globs.len() {
-        if matches(globs.at(at), text, steps) {
+        if matches(globs.at(at), path, from, steps) {
             return true;
         }
     }
     false
 }
 
-/// Whether one pattern matches the text.
+/// Whether one pattern matches.
 #[inline(always)]
-fn matches<L: Ledger>(glob: &Glob, text: &[u8], steps: &mut Steps<L>) -> bool
-    ensures value { result ≡ in_glob glob.now text.now }
+fn matches<L: Ledger>(glob: &Glob, path: &[u8], from: usize, steps: &mut Steps<L>) -> bool
+    requires { from ≤ length path.now }
+    ensures value { result ≡ in_glob glob.now (drop from path.now) }
     ensures later { steps.old ≤ steps.new }
-    ensures within { steps.new ≤ steps.old + steps_of text.now glob.now }
+    ensures within { steps.new ≤ steps.old + steps_of (drop from path.now) glob.now }
 {
-    glob.matches(text, steps)
+    glob.matches_from(path, from, steps)
 }

@@ -1,7 +1,7 @@
-use Rattle.std.proofs.Common.{true}
+use Rattle.std.proofs.Common.{drop, true}
 use Rattle.locate_engine.specs.Globs.{in_glob, steps_of}
 use Rattle.locate_engine.proofs.Patterns.{Asked}
 use Rattle.locate_engine.proofs.glob_matcher.any_matches.Given as goal
 
 abbrev pub invariant-loop-at : goal.invariant-loop-at
-invariant-loop-at g l = Asked true (λ glob. in_glob glob l.text) (steps_of l.text) l.globs l.at l.initial.steps l.steps
+invariant-loop-at g l = Asked true (λ glob. in_glob glob (drop l.from l.path)) (steps_of (drop l.from l.path)) l.globs l.at l.initial.steps l.steps
