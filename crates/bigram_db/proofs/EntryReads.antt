@@ -1,25 +1,27 @@
 -- What is read of an entry off a stream.
-use Rattle.std.proofs.Common.{◌≡◌, ℕ, ◌+◌, ◌-◌, ◌<◌, ◌≤◌, Bool, true, false, not, cond, eqb, ltb, leb, List, [], ◌∷◌, ◌++◌, length, take, drop, Option, Some, None, Result, Ok, Err, inl, inr, refl, sym, ap, ◌∙◌, append_assoc, append-nil, length-append, arith}
+use Rattle.std.proofs.Common.{◌≡◌, ℕ, ◌+◌, ◌-◌, ◌<◌, ◌≤◌, Bool, true, false, not, cond, eqb, ltb, leb, List, [], ◌∷◌, ◌++◌, length, take, drop, Option, Some, None, Result, Ok, Err, inl, inr, refl, sym, ap, ◌∙◌, append_assoc, append-nil, length-append, length-drop, arith}
 use Rattle.std.specs.Prelude.{ℤ, is_some, pos, negsuc, ◌+ℤ◌, ◌-ℤ◌}
 use Rattle.std.proofs.lemmas.Bool.{le-leb, lt-leb, le-ltb, eq-eqb, ne_eqb, cases_Bool}
 use Rattle.std.proofs.lemmas.Grind.{flat_map-append}
-use Rattle.std.proofs.lemmas.List.{take_all, take-append-le, drop-append-le}
+use Rattle.std.proofs.lemmas.List.{take_all, take-append-le, take-append-drop, drop-append-le, length-take-le}
 use Rattle.byte_feed.specs.declared.damage.DamageCause.TheVariants.{Cut, LongPath, EmptyPath, BadCount, NoCount, BadWord, ZeroChar}
 use Rattle.byte_feed.specs.declared.damage.Stop.{Stop}
 use Rattle.byte_feed.specs.declared.damage.Stop.TheVariants.{NotADatabase, Broken}
 use Rattle.byte_feed.specs.declared.damage.Break.{Break}
 use Rattle.byte_feed.specs.declared.damage.Break.TheVariants.{ReadFault, TooLarge, Stopped}
 use Rattle.byte_feed.specs.Field.{Reads, ◌>>=◌, byte_at, bytes_at, demand, max_path}
+use Rattle.byte_feed.specs.Front.{limit}
 use Rattle.byte_feed.specs.Feed.{FeedState, window, so_far, Took, TookKnown}
 use Rattle.byte_feed.specs.Stream.{is_cut, Fails, Breaks, StreamGives}
 use Rattle.byte_feed.proofs.Takes.{bytes_sized}
-use Rattle.byte_feed.proofs.TakenOff.{took_none, took_then, window_took, more_took, so_far_took}
+use Rattle.byte_feed.proofs.TakenOff.{took_none, took_held, took_then, window_took, more_took, so_far_took}
 use Rattle.byte_feed.proofs.Streams.{differ, stream_then, stream_err, stream_ok, stream_stop, stream_same}
 use Rattle.byte_feed.proofs.Wants.{Wants, carry, wants_ok, wants_demand, wants_then}
 use Rattle.bigram_db.specs.Pairs.{is_table, is_bigram}
 use Rattle.bigram_db.specs.Items.{Count, Short, Word, TextUnit, Plain, Escaped, Item, PathItem, value_of, amount, text_of, unit_bytes, path_with, shared_by, table_at, word_value, word_at, count_behind, count_at, shared_within, unit_fitting, units_at, entry_at}
-use Rattle.bigram_db.specs.Entries.{WhereTold, BreaksAs, CountKnown, NoneCame, NextKnown, Pushes, UnitKnown, UnitsKnown, EntryKnown}
-use Rattle.bigram_db.proofs.UnitLaws.{unit_then, units_then, units_ended, units_more, units_err}
+use Rattle.bigram_db.specs.Entries.{WhereTold, BreaksAs, CountKnown, NoneCame, NextKnown, Pushes, UnitKnown, SpellsText, UnitsKnown, EntryKnown}
+use Rattle.bigram_db.proofs.UnitLaws.{unit_then, units_then, units_on, units_ended, units_more, units_err}
+use Rattle.bigram_db.proofs.UnitPushes.{more_behind}
 use Rattle.bigram_db.proofs.EntryLaws.{done, with_rest, demand_no, entry_at_parts, within_is, shared_is, table_takes, table_again, table_len}
 
 abbrev failed : Stop → Result (Count × List ℕ) Stop
@@ -256,6 +258,43 @@ so_far_more table room first text more text' f0 f1 f2 f3 (Some a) (Some b) (Some
           ∙ ap (λ (m : ℕ). units_then (s.units ++ u.unit ∷ []) (units_at last table m rest)) left;
       makes = flat_map-append (unit_bytes table) s.units (u.unit ∷ []) ∙ ap (λ (l : List ℕ). l ++ (unit_bytes table u.unit ++ [])) s.makes ∙ ap (λ (l : List ℕ). text ++ l) (append-nil (unit_bytes table u.unit) ∙ u.is) ∙ sym is;
     }
+
+-- ---- units that were held
+
+then_units : (units more : List TextUnit) (r : Result (List TextUnit × List ℕ) Stop) → units_then units (units_then more r) ≡ units_then (units ++ more) r
+then_units units more (Ok x) = ap (λ (l : List TextUnit). Ok (l, x.1)) (sym (append_assoc units more x.0))
+then_units units more (Err s) = refl
+
+so_far_spelled : (table : List ℕ) (room : ℕ) (bytes text more text' : List ℕ) (f0 f1 f2 : FeedState) (l0 l1 l2 : Option (List ℕ)) → text' ≡ text ++ more → length text' ≤ room → SpellsText table bytes more
+    → SoFarKnown table room text f0 l0 f1 l1 → TookKnown f1 l1 f2 l2 bytes → SoFarKnown table room text' f0 l0 f2 l2
+so_far_spelled table room bytes text more text' f0 f1 f2 None l1 l2 is fits b s t = tt
+so_far_spelled table room bytes text more text' f0 f1 f2 (Some a) None l2 is fits b s t = absurd s
+so_far_spelled table room bytes text more text' f0 f1 f2 (Some a) (Some c) None is fits b s t = absurd t
+so_far_spelled table room bytes text more text' f0 f1 f2 (Some a) (Some c) (Some d) is fits b s t =
+    let len : length text' ≡ length text + length (text_of table b.units) = ap length is ∙ length-append text more ∙ ap (λ (l : List ℕ). length text + length l) (sym b.makes) in
+    let left : room - length text - length (text_of table b.units) ≡ room - length text' = omega (arith, len) in
+    record {
+      bytes = s.bytes ++ bytes;
+      units = s.units ++ b.units;
+      took = took_then f0 f1 f2 (Some a) (Some c) (Some d) s.bytes bytes s.took t;
+      goes = λ last rest.
+          ap (units_at last table room) (append_assoc s.bytes bytes rest)
+          ∙ s.goes last (bytes ++ rest)
+          ∙ ap (λ (l : List ℕ). units_then s.units (units_at last table (room - length text) (l ++ rest))) b.spelled
+          ∙ ap (units_then s.units) (units_on last table (room - length text) b.units rest b.each (omega (arith, len, fits)))
+          ∙ then_units s.units b.units (units_at last table (room - length text - length (text_of table b.units)) rest)
+          ∙ ap (λ (m : ℕ). units_then (s.units ++ b.units) (units_at last table m rest)) left;
+      makes = flat_map-append (unit_bytes table) s.units b.units ∙ ap (λ (l : List ℕ). l ++ text_of table b.units) s.makes ∙ ap (λ (l : List ℕ). text ++ l) b.makes ∙ sym is;
+    }
+
+-- the first so many bytes that were held, put into the path and handed out
+pub so_far_held : (table : List ℕ) (n count : ℕ) (path new : List ℕ) (f0 f1 f2 : FeedState) (l0 l1 : Option (List ℕ)) → n ≤ length path → take (length path) new ≡ path → length path ≤ length new → length new ≤ 4096
+    → SpellsText table (take count f1.held) (drop (length path) new) → count ≤ length f1.held → f2.held ≡ drop count f1.held → f2.ended ≡ f1.ended → f2.offset ≡ f1.offset + count → f2.offset + length f2.held ≤ limit
+    → SoFarKnown table (4096 - n) (drop n path) f0 l0 f1 l1 → SoFarKnown table (4096 - n) (drop n new) f0 l0 f2 l1
+so_far_held table n count path new f0 f1 f2 l0 l1 le begins grown fits spells within held ended offset bound s =
+    let len : length (take count f1.held) ≡ count = length-take-le count f1.held within in
+    so_far_spelled table (4096 - n) (take count f1.held) (drop n path) (drop (length path) new) (drop n new) f0 f1 f2 l0 l1 l1 (more_behind n path new le begins) (omega (arith, length-drop n new, grown, fits, le)) spells s
+    (took_held f1 f2 l1 (take count f1.held) ended (sym (take-append-drop count f1.held) ∙ ap (λ (l : List ℕ). take count f1.held ++ l) (sym held)) (omega (arith, offset, len)) (omega (arith, bound)))
 
 append_none : (units : List TextUnit) → units ++ [] ≡ units
 append_none [] = refl

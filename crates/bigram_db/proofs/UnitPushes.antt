@@ -1,7 +1,10 @@
 -- Units that go into a path.
-use Rattle.std.proofs.Common.{◌≡◌, ℕ, ◌+◌, ◌-◌, ◌*◌, ◌<◌, ◌≤◌, ◌↔◌, Bool, true, false, eqb, ltb, leb, get_or, List, [], ◌∷◌, ◌++◌, length, drop, Result, Ok, Err, refl, sym, ap, ◌∙◌, subst, inl, inr, arith}
+use Rattle.std.proofs.Common.{◌≡◌, ℕ, ◌+◌, ◌-◌, ◌*◌, ◌<◌, ◌≤◌, ◌↔◌, Bool, true, false, eqb, ltb, leb, get_or, List, [], ◌∷◌, ◌++◌, length, take, drop, Result, Ok, Err, refl, sym, ap, ◌∙◌, subst, inl, inr, append-nil, arith}
 use Rattle.std.specs.Prelude.{IsOk, OnOk, IfErr, ◌&&◌}
 use Rattle.std.proofs.lemmas.Bool.{both_ways, cases_lt, le-leb, lt-leb, lt-ltb, le-ltb, ne_eqb, and_from}
+use Rattle.std.proofs.lemmas.List.{take-append-le, drop-append-le, take-append-drop, take_more}
+use Rattle.std.proofs.lemmas.List.Elements.{All-nil, All-cons, All-append}
+use Rattle.std.proofs.lemmas.Grind.{flat_map-append}
 use Rattle.std.proofs.Math.Seq.{drop-append_seam}
 use Rattle.byte_feed.specs.declared.damage.DamageCause.TheVariants.{LongPath, EmptyPair, ZeroChar}
 use Rattle.byte_feed.specs.declared.damage.Stop.{Stop}
@@ -12,8 +15,9 @@ use Rattle.byte_feed.specs.Field.{◌>>=◌, demand}
 use Rattle.byte_feed.specs.Feed.{FeedState}
 use Rattle.byte_feed.specs.Stream.{is_cut, BreaksAt, IsFault}
 use Rattle.bigram_db.specs.Pairs.{pair_at, is_used}
-use Rattle.bigram_db.specs.Items.{TextUnit, Plain, Escaped, Paired, unit_bytes, unit_behind, unit_fitting}
-use Rattle.bigram_db.specs.Entries.{Pushes}
+use Rattle.bigram_db.specs.Items.{TextUnit, Plain, Escaped, Paired, spell_unit, spell_units, unit_bytes, IsUnit, unit_behind, unit_fitting}
+use Rattle.bigram_db.specs.Entries.{Pushes, SpellsText}
+use Rattle.bigram_db.proofs.UnitLaws.{unit_takes}
 use Rattle.bigram_db.proofs.EntryLaws.{done, with_rest, demand_yes, demand_no}
 
 fitting_ok : (table : List ℕ) (room first : ℕ) (bytes : List ℕ) (u : TextUnit) (rest : List ℕ) → unit_behind table first bytes ≡ Ok (u, rest) → length (unit_bytes table u) ≤ room → unit_fitting table room first bytes ≡ Ok (u, rest)
@@ -98,3 +102,39 @@ pushes_fault table room first bytes text (Ok x) P p h = absurd h
 pushes_fault table room first bytes text (Err ReadFault) P p h = absurd p
 pushes_fault table room first bytes text (Err TooLarge) P p h = absurd p
 pushes_fault table room first bytes text (Err (Stopped s)) P p h = absurd h
+
+-- ---- units that were put one after another
+
+-- what a path has behind another, where more was put to its end
+pub more_behind : (n : ℕ) (path new : List ℕ) → n ≤ length path → take (length path) new ≡ path → drop n new ≡ drop n path ++ drop (length path) new
+more_behind n path new le begins =
+    ap (drop n) (sym (take-append-drop (length path) new) ∙ ap (λ (l : List ℕ). l ++ drop (length path) new) begins) ∙ drop-append-le n path (drop (length path) new) le
+
+pub same_front : (n : ℕ) (path new : List ℕ) → n ≤ length path → take (length path) new ≡ path → take n new ≡ take n path
+same_front n path new le begins =
+    ap (take n) (sym (take-append-drop (length path) new) ∙ ap (λ (l : List ℕ). l ++ drop (length path) new) begins) ∙ take-append-le n path (drop (length path) new) le
+
+pub nothing_behind : (path : List ℕ) → [] ≡ drop (length path) path
+nothing_behind [] = refl
+nothing_behind (b ∷ path) = nothing_behind path
+
+pub spells_none : (table path : List ℕ) → SpellsText table [] (drop (length path) path)
+spells_none table path = record { units = []; each = All-nil (IsUnit table); spelled = refl; makes = nothing_behind path }
+
+-- one unit more
+spells_on : (table : List ℕ) (room first : ℕ) (bytes text more : List ℕ) → 31 < first → SpellsText table bytes text → Pushes table room first [] more (Ok tt) → SpellsText table (bytes ++ first ∷ []) (text ++ more)
+spells_on table room first bytes text more high s p =
+    let u : TextUnit = p.0 in
+    let t = unit_takes table room (first ∷ []) u [] (p.1 []) in
+    record {
+      units = s.units ++ u ∷ [];
+      each = All-append (IsUnit table) s.units (u ∷ []) s.each (All-cons (IsUnit table) u [] (t.is (lt-leb first 30 (omega (arith, high)))) (All-nil (IsUnit table)));
+      spelled = ap (λ (l : List ℕ). l ++ first ∷ []) s.spelled ∙ ap (λ (l : List ℕ). spell_units s.units ++ l) t.spelled ∙ sym (flat_map-append spell_unit s.units (u ∷ []));
+      makes = flat_map-append (unit_bytes table) s.units (u ∷ []) ∙ ap (λ (l : List ℕ). l ++ (unit_bytes table u ++ [])) s.makes ∙ ap (λ (l : List ℕ). text ++ l) (append-nil (unit_bytes table u) ∙ p.2);
+    }
+
+pub spells_more : (table : List ℕ) (room i : ℕ) (bytes : List ℕ) (n : ℕ) (path new : List ℕ) → i < length bytes → 31 < get_or bytes i 0 → n ≤ length path → take (length path) new ≡ path → SpellsText table (take i bytes) (drop n path)
+    → Pushes table room (get_or bytes i 0) [] (drop (length path) new) (Ok tt) → SpellsText table (take (i + 1) bytes) (drop n new)
+spells_more table room i bytes n path new within high le begins s p =
+    subst (λ (l : List ℕ). SpellsText table l (drop n new)) (sym (take_more bytes i 0 within))
+    (subst (SpellsText table (take i bytes ++ get_or bytes i 0 ∷ [])) (sym (more_behind n path new le begins)) (spells_on table room (get_or bytes i 0) (take i bytes) (drop n path) (drop (length path) new) high s p))

@@ -1,5 +1,5 @@
 -- What a stream gives of an entry, part by part. An entry ends where the bytes behind it say so.
-use Rattle.std.specs.Prelude.{◌≡◌, ℕ, ◌≤◌, ℤ, Bool, true, false, not, List, [], ◌∷◌, ◌++◌, length, Option, Some, None, Result, Ok, Err, ⊤, MatchResult}
+use Rattle.std.specs.Prelude.{◌≡◌, ℕ, ◌≤◌, ℤ, Bool, true, false, not, List, [], ◌∷◌, ◌++◌, length, Option, Some, None, Result, Ok, Err, ⊤, All, MatchResult}
 use Rattle.byte_feed.specs.declared.damage.DamageCause.TheVariants.{Cut}
 use Rattle.byte_feed.specs.declared.damage.Stop.{Stop}
 use Rattle.byte_feed.specs.declared.damage.Stop.TheVariants.{Broken}
@@ -8,7 +8,7 @@ use Rattle.byte_feed.specs.declared.damage.Break.TheVariants.{ReadFault, TooLarg
 use Rattle.byte_feed.specs.Field.{Reads, byte_at}
 use Rattle.byte_feed.specs.Feed.{FeedState, window, so_far, Took}
 use Rattle.byte_feed.specs.Stream.{is_cut, Gave, Breaks, Wanting}
-use Rattle.bigram_db.specs.Items.{TextUnit, Count, PathItem, value_of, shared_by, path_with, text_of, unit_bytes, ends, word_at, unit_fitting, units_at, entry_at}
+use Rattle.bigram_db.specs.Items.{TextUnit, Count, PathItem, value_of, shared_by, path_with, spell_units, text_of, unit_bytes, IsUnit, ends, word_at, unit_fitting, units_at, entry_at}
 
 -- what holds of the bytes that are left, where the source tells them
 abbrev pub WhereTold : (List ℕ → List ℕ → Type 0) → Option (List ℕ) → Option (List ℕ) → Type 0
@@ -73,6 +73,13 @@ pub record GaveUnit (table : List ℕ) (room first : ℕ) (text : List ℕ) (f :
 
 abbrev pub UnitKnown : List ℕ → ℕ → ℕ → List ℕ → FeedState → Option (List ℕ) → FeedState → Option (List ℕ) → Result (Unit {0}) Break → Type 0
 UnitKnown table room first text f left f' left' r = WhereTold (λ l l'. MatchResult r (λ _. GaveUnit table room first text f l f' l') (λ e. Breaks (unit_fitting table room first) f l (length l') e)) left left'
+
+-- These bytes spell units, which stand for this text.
+pub record SpellsText (table bytes text : List ℕ) : Type 0 where
+  pub units : List TextUnit
+  pub each : All (IsUnit table) units
+  pub spelled : bytes ≡ spell_units units
+  pub makes : text_of table units ≡ text
 
 -- Units were read that make this text, and the entry ends behind them.
 pub record GaveUnits (table : List ℕ) (room : ℕ) (text : List ℕ) (f : FeedState) (left : List ℕ) (f' : FeedState) (left' : List ℕ) : Type 0 where

@@ -10,7 +10,7 @@ ghost use Rattle.bigram_db.specs.Items.{is_in_range, table_at, count_at, word_at
 ghost use Rattle.bigram_db.specs.Entries.{CountKnown, NextKnown, UnitKnown, UnitsKnown, EntryKnown};
 
 use crate::table::is_table;
-use crate::unit::{push_escaped, push_unit};
+use crate::unit::{push_escaped, push_unit, push_units};
 use crate::word::{read_value, shared_after};
 use byte_feed::{Break, DamageCause, Feed, LIMIT, Stop, broken_at, read_byte};
 use loc_outside::Source;
@@ -179,6 +179,8 @@ fn read_units<S: Source>(
 {
     let _ = path.bytes();
     'units: loop {
+        let count = push_units(path, table, feed.held());
+        feed.pass(count);
         let first = match read_next(feed, src) {
             Ok(Some(first)) => first,
             Ok(None) => return Ok(()),

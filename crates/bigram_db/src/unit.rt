@@ -1,10 +1,38 @@
 //! Units, as they go into a path.
-ghost use Rattle.std.specs.Prelude.{◌≡◌, ◌≤◌, ◌<◌, ◌-◌, ◌+◌, ◌++◌, ◌∷◌, [], ◌↔◌, length, take, drop, IsOk, OnOk, IfErr, All, List, ℕ};
+ghost use Rattle.std.specs.Prelude.{◌≡◌, ◌≤◌, ◌<◌, ◌-◌, ◌+◌, ◌++◌, ◌∷◌, [], ◌↔◌, length, take, drop, IsOk, OnOk, OnErr, IfErr, All, List, ℕ};
 ghost use Rattle.byte_feed.specs.Field.{max_path};
-ghost use Rattle.bigram_db.specs.Entries.{Pushes};
+ghost use Rattle.bigram_db.specs.Entries.{Pushes, SpellsText};
 
 use byte_feed::{Break, DamageCause, Stop};
 use path_order::PathBuf;
+
+/// Appends the units that stand first in these bytes, up to an escape, the end of an entry, or a unit that cannot be
+/// appended. The answer is how many bytes they take.
+#[inline(always)]
+pub(crate) fn push_units(path: &mut PathBuf, table: &[u8; 256], bytes: &[u8]) -> usize
+    requires plain { All (λ b. 0 < b) path.old }
+    ensures within { result ≤ length bytes.now }
+    ensures units { SpellsText table.now (take result bytes.now) (drop (length path.old) path.new) }
+    ensures begins { take (length path.old) path.new ≡ path.old }
+    ensures grown { result + length path.old ≤ length path.new }
+    ensures plain { All (λ b. 0 < b) path.new }
+    ensures fits { length path.new ≤ 4096 }
+{
+    let _ = path.bytes();
+    let mut taken = 0;
+    'units: while taken < bytes.len() {
+        let first = bytes[taken];
+        if first <= 31 {
+            return taken;
+        }
+        match push_unit(path, table, first) {
+            Ok(()) => {}
+            Err(_) => return taken,
+        }
+        taken += 1;
+    }
+    taken
+}
 
 /// Appends what a byte other than 31 stands for: itself, or a pair of the table.
 #[inline(always)]
@@ -12,6 +40,7 @@ pub(crate) fn push_unit(path: &mut PathBuf, table: &[u8; 256], first: u8) -> Res
     requires first { 31 < first }
     requires plain { All (λ b. 0 < b) path.old }
     ensures unit { Pushes table.now (max_path - length path.old) first [] (drop (length path.old) path.new) result }
+    ensures err { OnErr result (path.new ≡ path.old) }
     ensures begins { take (length path.old) path.new ≡ path.old }
     ensures grows { OnOk result (length path.old < length path.new) }
     ensures grown { length path.old ≤ length path.new }
