@@ -138,3 +138,29 @@ pub spells_more : (table : List ℕ) (room i : ℕ) (bytes : List ℕ) (n : ℕ)
 spells_more table room i bytes n path new within high le begins s p =
     subst (λ (l : List ℕ). SpellsText table l (drop n new)) (sym (take_more bytes i 0 within))
     (subst (SpellsText table (take i bytes ++ get_or bytes i 0 ∷ [])) (sym (more_behind n path new le begins)) (spells_on table room (get_or bytes i 0) (take i bytes) (drop n path) (drop (length path) new) high s p))
+
+-- ---- one way for both kinds of units
+
+-- a unit that was put as these bytes
+put_as : (table : List ℕ) (first : ℕ) (u : TextUnit) (old new xs : List ℕ) → length old ≤ 4096 → length old + length xs ≤ 4096 → ((rest : List ℕ) → unit_behind table first rest ≡ Ok (u, rest)) → unit_bytes table u ≡ xs → new ≡ old ++ xs
+    → Pushes table (4096 - length old) first [] (drop (length old) new) (Ok tt)
+put_as table first u old new xs most room behind is put =
+    pushed table first [] u old new xs (Ok tt) most behind is (λ e. room, λ le. refl) put tt
+
+pub put_either : (table : List ℕ) (first pairs one two front : ℕ) (old new : List ℕ) → length old + 2 ≤ 4096 → 31 < first → (128 ≤ first → pairs ≡ 1) → (first < 128 → pairs ≡ 0) → one ≡ get_or table (2 * (first - 128 * pairs)) 0 → two ≡ get_or table (2 * (first - 128 * pairs) + 1) 0
+    → (pairs ≡ 1 → front ≡ one) → (pairs ≡ 0 → front ≡ first) → 0 < front → pairs ≤ two → new ≡ old ++ front ∷ take pairs (two ∷ []) → Pushes table (4096 - length old) first [] (drop (length old) new) (Ok tt)
+put_either table first pairs one two front old new room high pair other is_one is_two front_one front_other some enough put = elim (cases_lt first 128) [
+  | inl low ↦
+      let none : pairs ≡ 0 = other low in
+      let text : front ∷ take pairs (two ∷ []) ≡ first ∷ [] = rw none (ap (λ (b : ℕ). b ∷ []) (front_other none)) in
+      put_as table first (Plain first) old new (first ∷ []) (omega (arith, room)) (omega (arith, room)) (plain_behind table first high low) refl (put ∙ ap (λ (l : List ℕ). old ++ l) text)
+  | inr large ↦
+      let one_pair : pairs ≡ 1 = pair large in
+      let place : first - 128 * pairs ≡ first - 128 = omega (arith, one_pair) in
+      let a : front ≡ get_or table (2 * (first - 128)) 0 = front_one one_pair ∙ is_one ∙ ap (λ (n : ℕ). get_or table (2 * n) 0) place in
+      let b : two ≡ get_or table (2 * (first - 128) + 1) 0 = is_two ∙ ap (λ (n : ℕ). get_or table (2 * n + 1) 0) place in
+      let text : front ∷ take pairs (two ∷ []) ≡ front ∷ two ∷ [] = ap (λ (n : ℕ). front ∷ take n (two ∷ [])) one_pair in
+      let same : front ∷ two ∷ [] ≡ get_or table (2 * (first - 128)) 0 ∷ get_or table (2 * (first - 128) + 1) 0 ∷ [] = λ i. a i ∷ b i ∷ [] in
+      put_as table first (Paired (first - 128)) old new (get_or table (2 * (first - 128)) 0 ∷ get_or table (2 * (first - 128) + 1) 0 ∷ []) (omega (arith, room)) (omega (arith, room))
+      (used_behind table first large (omega (arith, some, a)) (omega (arith, enough, one_pair, b))) refl (put ∙ ap (λ (l : List ℕ). old ++ l) (text ∙ same))
+]
