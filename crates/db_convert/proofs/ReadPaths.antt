@@ -1,16 +1,17 @@
 -- Paths that are read one after another into a list.
-use Rattle.std.proofs.Common.{◌≡◌, ℕ, ◌+◌, ◌-◌, List, [], ◌∷◌, ◌++◌, map, length, take, Option, Some, None, Result, Ok, Err, IfSome, sym, subst, ap, ◌∙◌, append-nil, append_assoc, arith}
+use Rattle.std.proofs.Common.{◌≡◌, ℕ, ◌+◌, ◌-◌, List, [], ◌∷◌, ◌++◌, map, length, take, Option, Some, None, Result, Ok, Err, IfSome, All, sym, subst, ap, ◌∙◌, append-nil, append_assoc, arith}
 use Rattle.std.specs.Prelude.{nat_le}
 use Rattle.std.proofs.lemmas.List.{map-append}
 use Rattle.byte_feed.specs.declared.damage.DbFault.{DbFault}
 use Rattle.byte_feed.specs.declared.damage.DbFault.TheVariants as faults
 use Rattle.byte_feed.specs.Front.{Window, limit, readable}
 use Rattle.byte_feed.specs.Feed.{FeedState, empty_at, window}
-use Rattle.byte_feed.specs.Paths.{PathAt, ToCome, after_paths, no_paths, GivesWhole}
+use Rattle.byte_feed.specs.Paths.{PathAt, ToCome, IsPath, after_paths, no_paths, GivesWhole}
 use Rattle.byte_feed.specs.Calls.{Moved, MovedKnown, EndsKnown}
 use Rattle.db_convert.specs.declared.fault.ListFault.{ListFault}
 use Rattle.db_convert.specs.declared.fault.ListFault.TheVariants.{File, OutOfMemory}
 use Rattle.db_convert.specs.Reading.{Answers, EndsWith}
+use Rattle.db_convert.specs.Gathered.{Gathered}
 
 abbrev pub texts : List PathAt → List (List ℕ)
 texts given = map (λ (p : PathAt). p.text) given
@@ -74,3 +75,18 @@ whole_window file =
 pub file_answers : (t : Window → ToCome) (f : FeedState) (l : Option (List ℕ)) (r : Result (List (List ℕ)) ListFault) → f ≡ empty_at 0 → IfSome l (λ left. Answers (t (window f left)) r) → IfSome l (λ file. Answers (t (readable file)) r)
 file_answers t f None r fresh q = tt
 file_answers t f (Some file) r fresh q = subst (λ (w : Window). Answers (t w) r) (ap (λ (g : FeedState). window g file) fresh ∙ whole_window file) q
+
+-- ---- what is taken in
+
+-- what follows from one answer for another does so for paths that were taken in
+pub gathered_by : (holds : List (List ℕ) → Type 0) (given other : List ℕ → ToCome) (l l' : Option (List ℕ)) (r : Result (Unit {0}) ListFault)
+    → ((q : Result (List (List ℕ)) ListFault) → IfSome l (λ f. Answers (given f) q) → IfSome l' (λ f. Answers (other f) q)) → Gathered holds given l r → Gathered holds other l' r
+gathered_by holds given other l l' (Ok whole) turn g = (g.0, g.1, g.2, turn (Ok g.0) g.3)
+gathered_by holds given other l l' (Err fault) turn g = turn (Err fault) g
+
+-- a list that took in the paths has them
+pub list_answers : (p : List (List ℕ)) (given : List ℕ → ToCome) (l : Option (List ℕ)) → Gathered (λ paths. p ≡ paths) given l (Ok tt) → IfSome l (λ f. Answers (given f) (Ok p)) × All IsPath p
+list_answers p given l g = (
+  subst (λ (paths : List (List ℕ)). IfSome l (λ f. Answers (given f) (Ok paths))) (sym g.1) g.3,
+  subst (All IsPath) (sym g.1) g.2,
+)

@@ -3,6 +3,7 @@ pub mod Blocks
 pub mod Conversion
 pub mod Converts
 pub mod Example
+pub mod Gathered
 pub mod Orders
 pub mod Plans
 pub mod Reading

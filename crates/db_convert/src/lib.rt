@@ -5,9 +5,11 @@
 mod admission;
 mod bigram;
 mod converting;
+mod entries;
 mod entry;
 mod fault;
 mod format;
+mod gathers;
 mod laws;
 mod list;
 mod locate02;

@@ -1,4 +1,4 @@
-use Rattle.std.proofs.Common.{◌≡◌, ◌^◌, ◌-◌, ◌≤◌, List, IsTrue}
+use Rattle.std.proofs.Common.{◌^◌, ◌-◌, ◌≤◌, List, IsTrue}
 use Rattle.std.specs.List.{All}
 use Rattle.byte_feed.specs.Feed.{Draws}
 use Rattle.byte_feed.specs.Paths.{PathAt, IsPath, after_paths}
@@ -11,8 +11,8 @@ invariant-paths g l = record {
   live : IsTrue (g.P.PathStream.is_live l.stream);
   given : (given : List PathAt)
       × MovedKnown (g.P.PathStream.to_come l.fn.stream) (g.P.PathStream.to_come l.stream) (after_paths given) (g.P.PathStream.feed l.fn.stream) (g.S.Source.left l.fn.src) (g.P.PathStream.feed l.stream) (g.S.Source.left l.src)
-      × (l.paths ≡ texts given);
-  readable : All IsPath l.paths;
+      × g.C.Gathers.holds l.into (texts given)
+      × All IsPath (texts given);
   drawn : Draws (g.P.PathStream.feed l.fn.stream) (g.P.PathStream.feed l.stream) (g.S.Source.given l.fn.src) (g.S.Source.given l.src) (g.S.Source.left l.fn.src) (g.S.Source.left l.src);
   src : g.S.Source.kept l.fn.src l.src;
   later : g.S.Source.faults l.fn.src ≤ g.S.Source.faults l.src;
